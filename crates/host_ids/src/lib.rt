@@ -1,15 +1,20 @@
-//! The plain types that every layer names: want of memory, texts, keys, proposals, entries and
-//! verdicts.
+//! The plain types that every layer names: want of memory, texts, keys, proposals, entries,
+//! batches, kinds of machines and verdicts.
 #![tactic(auto)]
 
 mod entry;
+mod kind;
 mod memory;
 mod proposal;
 mod text;
 mod verdict;
 
-pub use entry::{Entries, Entry, Key};
+pub use entry::{Batch, Entries, Entry, Key};
+pub use kind::Kind;
 pub use memory::NoMemory;
 pub use proposal::Proposal;
 pub use text::Text;
 pub use verdict::Verdict;
+
+#[cfg(test)]
+mod tests;

@@ -1,0 +1,16 @@
+pub mod Computed
+pub mod Same
+pub mod Deciding
+pub mod Gone
+pub mod Onces
+pub mod Standing
+pub mod Registers
+pub mod Repeats
+pub mod Courses
+pub mod There
+pub mod Spelling
+pub mod Ordered
+pub mod Objects
+pub mod Lists
+pub mod Keeping
+pub mod Joining

@@ -1,0 +1,12 @@
+pub mod Words
+pub mod Command
+pub mod Object
+pub mod Image
+pub mod Sequence
+pub mod Mark
+pub mod Legal
+pub mod Decision
+pub mod Laws
+pub mod Course
+pub mod Rows
+pub mod Desk

@@ -1,0 +1,12 @@
+pub mod Lists
+pub mod Tables
+pub mod Names
+pub mod Replicas
+pub mod Agree
+pub mod Joining
+pub mod Applying
+pub mod Going
+pub mod Asking
+pub mod Steps
+pub mod Others
+pub mod Running

@@ -1,0 +1,140 @@
+-- A run tells nothing of any group but 1.
+use Rattle.std.proofs.Common.{◌≡◌, ℕ, ◌+◌, ◌==◌, List, [], ◌∷◌, ◌++◌, Bool, false, Option, Some, None, cond, length, map, refl}
+use Rattle.std.specs.Prelude.{nat_le, nat_lt}
+use Rattle.std.proofs.lemmas.Bool.{cond_both}
+use Rattle.host_ids.specs.declared.entry.Key.{Key}
+use Rattle.host_ids.specs.declared.entry.Entry.{Entry}
+use Rattle.host_ids.specs.declared.proposal.Proposal.{Proposal}
+use Rattle.host_ids.specs.declared.proposal.Proposal.TheVariants as proposals
+use Rattle.run_model.specs.declared.script.ScriptLine.{ScriptLine}
+use Rattle.run_model.specs.declared.script.ScriptLine.TheVariants as script
+use Rattle.run_model.specs.declared.script.HostEvent.{HostEvent}
+use Rattle.run_model.specs.declared.script.HostEvent.TheVariants as events
+use Rattle.run_model.specs.declared.told.Told.{Told}
+use Rattle.run_model.specs.declared.told.Want.{Want}
+use Rattle.run_model.specs.declared.told.Want.TheVariants as wants
+use Rattle.run_model.specs.declared.told.Stop.{Stop}
+use Rattle.run_model.specs.declared.told.Stop.TheVariants.{Ended, Bad, Full, Spent}
+use Rattle.run_model.specs.declared.line.Line.TheVariants as lines
+use Rattle.run_model.specs.Replica
+use Rattle.run_model.specs.World.{World, Cell, start}
+use Rattle.run_model.specs.Script.{read_line}
+use Rattle.run_model.specs.Run
+use Rattle.run_model.specs.Run.{Step, Outcome, applied, answered, step, run}
+use Rattle.run_model.specs.Marks.{marks_of}
+use Rattle.run_law.proofs.Joining.{marks_of-append}
+use Rattle.run_law.proofs.Going.{notes_marks}
+
+-- the group isn't 1
+pub record IsOther (g : ℕ) : Type 0 where
+  pub differs : (1 == g) ≡ false
+
+-- the lines say nothing of the group
+abbrev pub IsSilent : ℕ → List Told → Type 0
+IsSilent g told = marks_of g told ≡ []
+
+both_silent : (g : ℕ) (a b : List Told) → IsSilent g a → IsSilent g b → IsSilent g (a ++ b)
+both_silent g a b p q = rw (marks_of-append, p, q) refl
+
+-- ---- an apply
+
+ended_silent : (g : ℕ) (contexts : List (List ℕ)) (key : Key) (place : ℕ) (reply : List ℕ) (o : Option Want) → IsOther g → IsSilent g (Run.ended o contexts key (lines.Done key 1 place reply))
+ended_silent g contexts key place reply None n = refl
+ended_silent g contexts key place reply (Some want) n = rw n.differs refl
+
+one_silent : (g : ℕ) (contexts : List (List ℕ)) (p : Proposal) (key : Key) (c : Cell) (ws : List (Key × Want)) → IsOther g → IsSilent g (Run.applied_by contexts p key c ws).told
+one_silent g contexts proposals.Blank key c ws n = refl
+one_silent g contexts (proposals.Plain command) key c ws n = ended_silent g contexts key (c.applied + 1) _ (Run.want_of key ws) n
+one_silent g contexts (proposals.Session client series responded command) key c ws n = refl
+one_silent g contexts (proposals.Register client) key c ws n = refl
+one_silent g contexts (proposals.Close client) key c ws n = refl
+
+applied_silent : (g : ℕ) (contexts : List (List ℕ)) (es : List Entry) (c : Cell) (ws : List (Key × Want)) → IsOther g → IsSilent g (applied contexts es c ws).told
+unfolding applied
+applied_silent g contexts [] c ws n = refl
+applied_silent g contexts (e ∷ es) c ws n =
+    let first = Run.applied_by contexts e.proposal e.key c ws in
+    both_silent g first.told (applied contexts es first.cell first.wants).told (one_silent g contexts e.proposal e.key c ws n) (applied_silent g contexts es first.cell first.wants n)
+
+answer_silent : (g : ℕ) (contexts : List (List ℕ)) (c : Cell) (key : Key) (o : Option Want) → IsOther g → IsSilent g (Run.answer_told contexts c key o)
+answer_silent g contexts c key None n = refl
+answer_silent g contexts c key (Some wants.Proposal) n = refl
+answer_silent g contexts c key (Some (wants.Read query)) n = rw n.differs refl
+
+answered_silent : (g : ℕ) (contexts : List (List ℕ)) (c : Cell) (keys : List Key) (ws : List (Key × Want)) → IsOther g → IsSilent g (answered contexts c keys ws).told
+unfolding answered
+answered_silent g contexts c [] ws n = refl
+answered_silent g contexts c (key ∷ keys) ws n =
+    both_silent g (Run.answer_told contexts c key (Run.want_of key ws)) (answered contexts c keys (Run.without key ws)).told (answer_silent g contexts c key (Run.want_of key ws) n) (answered_silent g contexts c keys (Run.without key ws) n)
+
+-- ---- each line of a script
+
+by_cond : (g : ℕ) (b : Bool) (x y : Step) → IsSilent g x.told → IsSilent g y.told → IsSilent g (cond b x y).told
+by_cond g b x y p q = cond_both b x y (λ (s : Step). IsSilent g s.told) (λ _. p) (λ _. q)
+
+apply_silent : (g : ℕ) (w : World) (most : ℕ) → IsOther g → IsSilent g (Run.apply w most).told
+apply_silent g w most n =
+    let a = applied w.contexts (Run.next_entries w most) w.cell w.requests.wants in
+    by_cond g (nat_lt w.cell.applied (Replica.ripe w.replica)) (Run.applies w a) (Run.tells w lines.Idle)
+    (both_silent g a.told (Run.answers_due w a).told (applied_silent g w.contexts (Run.next_entries w most) w.cell w.requests.wants n) (answered_silent g w.contexts a.cell _ a.wants n)) refl
+
+event_silent : (g : ℕ) (w : World) (event : HostEvent) → IsOther g → IsSilent g (Run.event_step event w).told
+event_silent g w (events.Timeout group) n = notes_marks g (Replica.on_timeout w.replica).notes
+event_silent g w (events.Save group) n = notes_marks g (Replica.on_save w.replica).notes
+event_silent g w (events.Apply group most) n = apply_silent g w most n
+
+proposed_silent : (g : ℕ) (w : World) (context : List ℕ) (p : Proposal) (row : Replica.Row) → IsOther g → IsSilent g (Run.proposed w context p row).told
+proposed_silent g w context p row n = by_cond g (Run.is_dropped row) _ _ (rw n.differs refl) (rw n.differs refl)
+
+read_silent : (g : ℕ) (w : World) (context query : List ℕ) (row : Replica.Row) → IsOther g → IsSilent g (Run.read_asked w context query row).told
+read_silent g w context query row n =
+    by_cond g (Run.is_dropped row) _ _ (rw n.differs refl)
+    (by_cond g (Run.is_reached (Run.confirmed_index row.notes) w.cell.applied) _ _ (rw n.differs refl) (rw n.differs refl))
+
+line_silent : (g : ℕ) (w : World) (said : ScriptLine) → IsOther g → IsSilent g (step said w).told
+unfolding step
+line_silent g w script.End n = refl
+line_silent g w (script.Host host) n = refl
+line_silent g w (script.Group group kind roster most) n = refl
+line_silent g w (script.Event host event) n = event_silent g w event n
+line_silent g w (script.Ask host group context command) n =
+    by_cond g (Run.is_used w context) _ _ refl (by_cond g (nat_lt 512 (length command)) _ _ refl (proposed_silent g w context (proposals.Plain command) (Replica.on_local_proposal (Run.next_key w) (proposals.Plain command) w.replica) n))
+line_silent g w (script.Read host group context query) n = by_cond g (Run.is_used w context) _ _ refl (read_silent g w context query (Replica.on_local_read (Run.next_key w) w.replica) n)
+
+-- ---- the run
+
+cond_silent : (g : ℕ) (b : Bool) (x y : Outcome) → IsSilent g x.told → IsSilent g y.told → IsSilent g (cond b x y).told
+cond_silent g b x y p q = cond_both b x y (λ (o : Outcome). IsSilent g o.told) (λ _. p) (λ _. q)
+
+goes_silent : (g : ℕ) (w : World) (n : ℕ) (said : Option ScriptLine) (more : ScriptLine → Outcome) → ((line : ScriptLine) → IsSilent g (more line).told) → IsSilent g (Run.goes_on said more w n).told
+goes_silent g w n None more h = refl
+goes_silent g w n (Some line) more h = cond_silent g (Run.is_end line) (Run.stops w Ended) (more line) refl (h line)
+
+run_silent : (g : ℕ) (w : World) (n size : ℕ) (parts : List (List ℕ)) → IsOther g → IsSilent g (run w n size parts).told
+unfolding run
+run_silent g w n size [] o = refl
+run_silent g w n size (line ∷ []) o = cond_silent g (nat_le Run.most_bytes size) (Run.stops w Full) (Run.stops w (Run.cut_short n line)) refl refl
+run_silent g w n size (line ∷ next ∷ more) o =
+    let rest = λ (said : ScriptLine). Run.told_before (step said w).told (run (step said w).world (n + 1) (size + (length line + 1)) (next ∷ more)) in
+    cond_silent g (nat_le Run.most_bytes size) (Run.stops w Full) (Run.goes_on (read_line n line) rest w n) refl
+    (goes_silent g w n (read_line n line) rest
+    (λ said. both_silent g (step said w).told (run (step said w).world (n + 1) (size + (length line + 1)) (next ∷ more)).told (line_silent g w said o) (run_silent g (step said w).world (n + 1) (size + (length line + 1)) (next ∷ more) o)))
+
+entries_silent : (g : ℕ) (w : World) (es : List Entry) → IsOther g → IsSilent g (map (Run.entry_told w) es)
+entries_silent g w [] n = refl
+entries_silent g w (e ∷ es) n = rw (n.differs, entries_silent g w es n) refl
+
+last_silent : (g : ℕ) (w : World) (stop : Stop) → IsOther g → IsSilent g (Run.ending stop w)
+last_silent g w Ended n = both_silent g (map (Run.entry_told w) (Run.decided_entries w)) (Run.bare lines.End ∷ []) (entries_silent g w (Run.decided_entries w) n) refl
+last_silent g w (Bad line) n = refl
+last_silent g w Full n = refl
+last_silent g w (Spent line) n = refl
+
+-- the lines before the last ones, and all of them
+pub so_far_silent : (g : ℕ) (text : List ℕ) → IsOther g → IsSilent g (Run.outcome_of text).told
+so_far_silent g text n = run_silent g start 0 0 (Run.parts_of text) n
+
+pub all_silent : (g : ℕ) (text : List ℕ) → IsOther g → IsSilent g (Run.all_told (Run.outcome_of text))
+all_silent g text n =
+    let o = Run.outcome_of text in
+    both_silent g o.told (Run.ending o.stop o.world) (so_far_silent g text n) (last_silent g o.world o.stop n)

@@ -1,0 +1,16 @@
+//! Every run is legal: its worlds move as desks do, step by step.
+#![tactic(auto)]
+
+ghost use Rattle.run_law.specs.Lawful.{RunsAreLegal, RunsAreLegalSoFar};
+
+use object_model::moves_are_legal;
+
+/// Whatever text a run is over, its output is legal for each group: at the end of its script by
+/// the entries that it shows, and before that by the decided list of the world that it has reached.
+/// Source: this project's own; the sessions are those of dissertation section 6.3.
+pub fn runs_are_legal()
+    ensures whole { RunsAreLegal }
+    ensures so_far { RunsAreLegalSoFar }
+{
+    moves_are_legal();
+}

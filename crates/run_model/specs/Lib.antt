@@ -1,0 +1,7 @@
+pub mod Replica
+pub mod World
+pub mod Script
+pub mod Print
+pub mod Run
+pub mod Marks
+pub mod Rows

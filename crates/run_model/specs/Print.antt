@@ -1,0 +1,46 @@
+-- The lines of the output as bytes. Source: this project's own.
+use Rattle.std.specs.Prelude.{ℕ, List, [], ◌∷◌, ◌++◌, ◌&&◌, codes, decimal, map, nat_le, if◌then◌else◌}
+use Rattle.host_ids.specs.declared.proposal.Proposal.{Proposal}
+use Rattle.host_ids.specs.declared.proposal.Proposal.TheVariants as proposals
+use Rattle.run_model.specs.declared.line.Line.{Line}
+use Rattle.run_model.specs.declared.line.Line.TheVariants as lines
+
+-- words with a space between
+infixl 8 ◌·◌
+abbrev pub ◌·◌ : List ℕ → List ℕ → List ℕ
+a · b = a ++ (32 ∷ b)
+
+-- a byte that doesn't show is printed as `?`
+abbrev pub shown_byte : ℕ → ℕ
+shown_byte b = if nat_le 32 b && nat_le b 126 then b else 63
+
+-- a payload or a reply
+abbrev pub shown_text : List ℕ → List ℕ
+shown_text text = map shown_byte text
+
+abbrev pub proposal_text : Proposal → List ℕ
+proposal_text proposals.Blank = codes "blank"
+proposal_text (proposals.Plain command) = shown_text command
+proposal_text (proposals.Session client series responded command) = codes "call" · decimal client · decimal series · decimal responded · shown_text command
+proposal_text (proposals.Register client) = codes "register" · decimal client
+proposal_text (proposals.Close client) = codes "close" · decimal client
+
+abbrev pub line_text : List ℕ → Line → List ℕ
+line_text context (lines.Started host start) = codes "started" · decimal host · decimal start
+line_text context (lines.Leader host group term) = codes "leader" · decimal host · decimal group · decimal term
+line_text context lines.Idle = codes "idle"
+line_text context (lines.Refused number) = codes "refused" · decimal number
+line_text context (lines.Ask key group proposal) = codes "ask" · context · decimal group · proposal_text proposal
+line_text context (lines.AskRead key group query) = codes "ask" · context · decimal group · codes "read" · shown_text query
+line_text context (lines.Done key group place reply) = codes "done" · context · decimal place · shown_text reply
+line_text context (lines.Read key group front answer) = codes "read" · context · decimal front · shown_text answer
+line_text context (lines.Dropped key group) = codes "dropped" · context
+line_text context (lines.Entry group entry) = codes "entry" · decimal group · decimal entry.index · context · proposal_text entry.proposal
+line_text context lines.LimitScript = codes "limit script 67108864"
+line_text context lines.Usage = codes "usage"
+line_text context (lines.BadLine line) = codes "badline" · decimal line
+line_text context lines.End = codes "end"
+
+-- a line and its line feed
+unfoldable pub print_line : List ℕ → Line → List ℕ
+print_line context line = line_text context line ++ 10 ∷ []

@@ -1,0 +1,338 @@
+-- A run: what each line of a script does to the world, and the lines that it prints. Source: this project's own.
+use Rattle.std.specs.Prelude.{ℕ, ◌+◌, ◌-◌, ◌==◌, List, [], ◌∷◌, ◌++◌, Bool, true, false, Option, Some, None, nat_lt, nat_le, length, take, drop, min, map, slice_get, unwrap_or, codes, bytes_eq, if◌then◌else◌}
+use Rattle.std.specs.List.{list_any, slice_split, flat_map}
+use Rattle.std.specs.BTreeMap.{insert_entry, is_at}
+use Rattle.std.specs.BTreeSet.{insert_key}
+use Rattle.std.specs.Map.{lookup, remove_entry}
+use Rattle.host_ids.specs.declared.entry.Entry.{Entry}
+use Rattle.host_ids.specs.declared.entry.Key.{Key}
+use Rattle.host_ids.specs.declared.proposal.Proposal.{Proposal}
+use Rattle.host_ids.specs.declared.proposal.Proposal.TheVariants as proposals
+use Rattle.object_model.specs.Object.{after, answer}
+use Rattle.run_model.specs.declared.script.ScriptLine.{ScriptLine}
+use Rattle.run_model.specs.declared.script.ScriptLine.TheVariants as script
+use Rattle.run_model.specs.declared.script.HostEvent.{HostEvent}
+use Rattle.run_model.specs.declared.script.HostEvent.TheVariants as events
+use Rattle.run_model.specs.declared.line.Line.{Line}
+use Rattle.run_model.specs.declared.line.Line.TheVariants as lines
+use Rattle.run_model.specs.declared.replica.Note.{Note}
+use Rattle.run_model.specs.declared.replica.Note.TheVariants as notes
+use Rattle.run_model.specs.declared.told.Told.{Told}
+use Rattle.run_model.specs.declared.told.Want.{Want}
+use Rattle.run_model.specs.declared.told.Want.TheVariants as wants
+use Rattle.run_model.specs.declared.told.Waiting.{Waiting}
+use Rattle.run_model.specs.declared.told.Stop.{Stop}
+use Rattle.run_model.specs.declared.told.Stop.TheVariants.{Ended, Bad, Full, Spent}
+use Rattle.run_model.specs.declared.replica.Replica.{Replica}
+use Rattle.run_model.specs.Replica.{Row, on_timeout, on_save, on_local_proposal, on_local_read, ripe}
+use Rattle.run_model.specs.World.{Cell, Open, World, start, key_order, waiting_order}
+use Rattle.run_model.specs.Script.{read_line}
+use Rattle.run_model.specs.Print.{print_line}
+
+-- ---- lines with the contexts that they show
+
+abbrev pub bare : Line → Told
+bare line = record { context = codes "-"; line = line }
+
+-- the context of the request with this serial, `-` at 0, where there is none
+abbrev pub context_at : List (List ℕ) → ℕ → List ℕ
+context_at contexts serial = if serial == 0 then codes "-" else unwrap_or (slice_get contexts (serial - 1)) (codes "?")
+
+abbrev pub shows : List (List ℕ) → Key → Line → Told
+shows contexts key line = record { context = context_at contexts key.serial; line = line }
+
+-- the world after an event, and the lines of the event
+pub record Step : Type 0 where
+  pub world : World
+  pub told : List Told
+
+abbrev pub quiet : World → Step
+quiet w = record { world = w; told = [] }
+
+abbrev pub tells : World → Line → Step
+tells w line = record { world = w; told = bare line ∷ [] }
+
+-- the lines of what an event of the core told
+abbrev pub note_told : Note → List Told
+note_told (notes.Leader host term) = bare (lines.Leader host 1 term) ∷ []
+note_told notes.Idle = bare lines.Idle ∷ []
+note_told (notes.Dropped key) = []
+note_told (notes.Confirmed host key index) = []
+
+abbrev pub after_row : World → Row → Step
+after_row w row = record { world = record w { replica = row.replica }; told = flat_map note_told row.notes }
+
+abbrev pub timeout : World → Step
+timeout w = after_row w (on_timeout w.replica)
+
+abbrev pub save : World → Step
+save w = after_row w (on_save w.replica)
+
+-- ---- requests
+
+-- the key of a new request
+abbrev pub next_key : World → Key
+next_key w = record { host = 1; start = 1; serial = length w.contexts + 1 }
+
+abbrev pub named : World → List ℕ → World
+named w context = record w { contexts = w.contexts ++ context ∷ [] }
+
+-- a request joins the open ones
+abbrev pub joined : Key → Want → Open → Open
+joined key want o = record o { wants = insert_entry key_order o.wants key want }
+
+abbrev pub without : Key → List (Key × Want) → List (Key × Want)
+without key wants = remove_entry (is_at (key_order key)) wants
+
+abbrev pub want_of : Key → List (Key × Want) → Option Want
+want_of key wants = lookup (is_at (key_order key)) wants
+
+-- the `ask` line, and lines behind it
+abbrev pub asked : World → List ℕ → Line → List Told → List Told
+asked w context line more = record { context = context; line = line } ∷ more
+
+abbrev pub dropped : World → List ℕ → Told
+dropped w context = record { context = context; line = lines.Dropped (next_key w) 1 }
+
+-- the core can't take the request
+abbrev pub drops : Note → Bool
+drops (notes.Leader host term) = false
+drops notes.Idle = false
+drops (notes.Dropped key) = true
+drops (notes.Confirmed host key index) = false
+
+abbrev pub is_dropped : Row → Bool
+is_dropped row = list_any drops row.notes
+
+-- the index from which on a read may be answered, where the core tells one
+abbrev pub confirmed_index : List Note → Option ℕ
+confirmed_index [] = None
+confirmed_index (notes.Leader host term ∷ more) = confirmed_index more
+confirmed_index (notes.Idle ∷ more) = confirmed_index more
+confirmed_index (notes.Dropped key ∷ more) = confirmed_index more
+confirmed_index (notes.Confirmed host key index ∷ more) = Some index
+
+-- a proposal that the core takes joins the open requests, and one that it drops ends at once
+abbrev pub proposed : World → List ℕ → Proposal → Row → Step
+proposed w context p row =
+    if is_dropped row
+    then record { world = record (named w context) { replica = row.replica }; told = asked w context (lines.Ask (next_key w) 1 p) (dropped w context ∷ []) }
+    else record { world = record (named w context) { replica = row.replica; requests = joined (next_key w) wants.Proposal w.requests }; told = asked w context (lines.Ask (next_key w) 1 p) [] }
+
+abbrev pub proposes : World → List ℕ → Proposal → Step
+proposes w context p = proposed w context p (on_local_proposal (next_key w) p w.replica)
+
+-- the context was used by a request that wasn't refused
+abbrev pub is_used : World → List ℕ → Bool
+is_used w context = list_any (bytes_eq context) w.contexts
+
+abbrev pub ask : World → List ℕ → List ℕ → Step
+ask w context command =
+    if is_used w context then tells w (lines.Refused 5)
+    else (if nat_lt 512 (length command) then tells w (lines.Refused 14)
+    else proposes w context (proposals.Plain command))
+
+-- the line of a read that is answered now
+abbrev pub answer_line : Cell → Key → List ℕ → Line
+answer_line c key query = lines.Read key 1 c.applied (answer c.pairs query)
+
+-- an open read waits from the time on when it is confirmed
+abbrev pub awaits : Option ℕ → Key → List Waiting → List Waiting
+awaits None key waiting = waiting
+awaits (Some index) key waiting = insert_key waiting_order waiting (record { front = index; key = key })
+
+abbrev pub is_reached : Option ℕ → ℕ → Bool
+is_reached None applied = false
+is_reached (Some index) applied = nat_le index applied
+
+-- a read that is confirmed at what is applied already is answered at once, and another one joins the open requests
+abbrev pub read_taken : World → List ℕ → List ℕ → Replica → Option ℕ → Step
+read_taken w context query replica index =
+    if is_reached index w.cell.applied
+    then record {
+      world = record (named w context) { replica = replica };
+      told = asked w context (lines.AskRead (next_key w) 1 query) (record { context = context; line = answer_line w.cell (next_key w) query } ∷ []);
+    }
+    else record {
+      world = record (named w context) { replica = replica; requests = record { wants = (joined (next_key w) (wants.Read query) w.requests).wants; waiting = awaits index (next_key w) w.requests.waiting } };
+      told = asked w context (lines.AskRead (next_key w) 1 query) [];
+    }
+
+abbrev pub read_asked : World → List ℕ → List ℕ → Row → Step
+read_asked w context query row =
+    if is_dropped row
+    then record { world = record (named w context) { replica = row.replica }; told = asked w context (lines.AskRead (next_key w) 1 query) (dropped w context ∷ []) }
+    else read_taken w context query row.replica (confirmed_index row.notes)
+
+abbrev pub reads : World → List ℕ → List ℕ → Step
+reads w context query = if is_used w context then tells w (lines.Refused 5) else read_asked w context query (on_local_read (next_key w) w.replica)
+
+-- ---- applying
+
+-- a request that is open ends with a line
+abbrev pub ended : Option Want → List (List ℕ) → Key → Line → List Told
+ended None contexts key line = []
+ended (Some want) contexts key line = shows contexts key line ∷ []
+
+-- the cell and the open requests after some entries, and the lines of the requests that ended
+pub record Applied : Type 0 where
+  pub cell : Cell
+  pub wants : List (Key × Want)
+  pub told : List Told
+
+abbrev pub passed : Cell → List (Key × Want) → Applied
+passed c wants = record { cell = record c { applied = c.applied + 1 }; wants = wants; told = [] }
+
+-- an entry of the log is given to the object: until sessions are built, a command outside of them alone changes it
+abbrev pub applied_by : List (List ℕ) → Proposal → Key → Cell → List (Key × Want) → Applied
+applied_by contexts proposals.Blank key c wants = passed c wants
+applied_by contexts (proposals.Plain command) key c wants = record {
+  cell = record { applied = c.applied + 1; pairs = (after c.pairs command).pairs };
+  wants = without key wants;
+  told = ended (want_of key wants) contexts key (lines.Done key 1 (c.applied + 1) (after c.pairs command).reply);
+}
+applied_by contexts (proposals.Session client series responded command) key c wants = passed c wants
+applied_by contexts (proposals.Register client) key c wants = passed c wants
+applied_by contexts (proposals.Close client) key c wants = passed c wants
+
+unfoldable pub applied : List (List ℕ) → List Entry → Cell → List (Key × Want) → Applied
+applied contexts [] c wants = record { cell = c; wants = wants; told = [] }
+applied contexts (e ∷ es) c wants =
+    let first = applied_by contexts e.proposal e.key c wants in
+    let more = applied contexts es first.cell first.wants in
+    record { cell = more.cell; wants = more.wants; told = first.told ++ more.told }
+
+-- the waiting reads whose front is applied, and the others
+abbrev pub due : ℕ → List Waiting → List Waiting
+due applied [] = []
+due applied (r ∷ rs) = if nat_le r.front applied then r ∷ due applied rs else []
+
+abbrev pub not_due : ℕ → List Waiting → List Waiting
+not_due applied [] = []
+not_due applied (r ∷ rs) = if nat_le r.front applied then not_due applied rs else r ∷ rs
+
+-- their keys in order of asking
+abbrev pub keys_with : List Key → List Waiting → List Key
+keys_with keys [] = keys
+keys_with keys (r ∷ rs) = keys_with (insert_key key_order keys r.key) rs
+
+-- the open requests after some reads were answered, and their lines
+pub record Answered : Type 0 where
+  pub wants : List (Key × Want)
+  pub told : List Told
+
+abbrev pub answer_told : List (List ℕ) → Cell → Key → Option Want → List Told
+answer_told contexts c key None = []
+answer_told contexts c key (Some wants.Proposal) = []
+answer_told contexts c key (Some (wants.Read query)) = shows contexts key (answer_line c key query) ∷ []
+
+unfoldable pub answered : List (List ℕ) → Cell → List Key → List (Key × Want) → Answered
+answered contexts c [] wants = record { wants = wants; told = [] }
+answered contexts c (key ∷ keys) wants =
+    let more = answered contexts c keys (without key wants) in
+    record { wants = more.wants; told = answer_told contexts c key (want_of key wants) ++ more.told }
+
+-- the entries to apply now
+abbrev pub next_entries : World → ℕ → List Entry
+next_entries w most = take (min most (ripe w.replica - w.cell.applied)) (drop w.cell.applied w.replica.log)
+
+abbrev pub answers_due : World → Applied → Answered
+answers_due w a = answered w.contexts a.cell (keys_with [] (due a.cell.applied w.requests.waiting)) a.wants
+
+abbrev pub applies : World → Applied → Step
+applies w a = record {
+  world = record w { cell = a.cell; requests = record { wants = (answers_due w a).wants; waiting = not_due a.cell.applied w.requests.waiting } };
+  told = a.told ++ (answers_due w a).told;
+}
+
+abbrev pub apply : World → ℕ → Step
+apply w most =
+    if nat_lt w.cell.applied (ripe w.replica) then applies w (applied w.contexts (next_entries w most) w.cell w.requests.wants) else tells w lines.Idle
+
+-- ---- lines
+
+abbrev pub event_step : HostEvent → World → Step
+event_step (events.Timeout group) w = timeout w
+event_step (events.Save group) w = save w
+event_step (events.Apply group most) w = apply w most
+
+unfoldable pub step : ScriptLine → World → Step
+step script.End w = quiet w
+step (script.Host host) w = tells w (lines.Started host 1)
+step (script.Group group kind roster limit) w = quiet w
+step (script.Event host event) w = event_step event w
+step (script.Ask host group context command) w = ask w context command
+step (script.Read host group context query) w = reads w context query
+
+-- ---- the run
+
+-- the lines of the events so far, why the run stops, and the world that it has reached
+pub record Outcome : Type 0 where
+  pub told : List Told
+  pub stop : Stop
+  pub world : World
+
+abbrev pub stops : World → Stop → Outcome
+stops w s = record { told = []; stop = s; world = w }
+
+abbrev pub told_before : List Told → Outcome → Outcome
+told_before told o = record o { told = told ++ o.told }
+
+-- the lines that were read have at most so many bytes before one more is tried
+abbrev pub most_bytes : ℕ
+most_bytes = 67108864
+
+abbrev pub is_end : ScriptLine → Bool
+is_end script.End = true
+is_end (script.Host host) = false
+is_end (script.Group group kind roster limit) = false
+is_end (script.Event host event) = false
+is_end (script.Ask host group context command) = false
+is_end (script.Read host group context query) = false
+
+abbrev pub goes_on : Option ScriptLine → (ScriptLine → Outcome) → World → ℕ → Outcome
+goes_on None more w n = stops w (Bad (n + 1))
+goes_on (Some line) more w n = if is_end line then stops w Ended else more line
+
+-- what has no line feed and is too long for a line is a bad one, whatever comes
+abbrev pub cut_short : ℕ → List ℕ → Stop
+cut_short n line = if nat_lt 4096 (length line) then Bad (n + 1) else Spent (n + 1)
+
+-- a run over the parts between line feeds, of which the last is no whole line, after n lines of so many bytes: the limit is tried before each line
+unfoldable pub run : World → ℕ → ℕ → List (List ℕ) → Outcome
+run w n size [] = stops w (Spent (n + 1))
+run w n size (line ∷ []) = if nat_le most_bytes size then stops w Full else stops w (cut_short n line)
+run w n size (line ∷ next ∷ more) =
+    if nat_le most_bytes size then stops w Full
+    else goes_on (read_line n line)
+    (λ said. told_before (step said w).told (run (step said w).world (n + 1) (size + (length line + 1)) (next ∷ more))) w n
+
+abbrev pub parts_of : List ℕ → List (List ℕ)
+parts_of text = slice_split (λ b. b == 10) text
+
+abbrev pub outcome_of : List ℕ → Outcome
+outcome_of text = run start 0 0 (parts_of text)
+
+abbrev pub text_of : List Told → List ℕ
+text_of told = flat_map (λ t. print_line t.context t.line) told
+
+-- the decided list: the entries up to the commit index
+abbrev pub decided_entries : World → List Entry
+decided_entries w = take w.replica.commit w.replica.log
+
+abbrev pub entry_told : World → Entry → Told
+entry_told w e = shows w.contexts e.key (lines.Entry 1 e)
+
+-- the last lines: at the end of a script the decided list
+abbrev pub ending : Stop → World → List Told
+ending Ended w = map (entry_told w) (decided_entries w) ++ bare lines.End ∷ []
+ending (Bad line) w = bare (lines.BadLine line) ∷ []
+ending Full w = bare lines.LimitScript ∷ []
+ending (Spent line) w = bare (lines.BadLine line) ∷ []
+
+abbrev pub all_told : Outcome → List Told
+all_told o = o.told ++ ending o.stop o.world
+
+-- all that a run over this text writes
+unfoldable pub output_of : List ℕ → List ℕ
+output_of text = text_of (all_told (outcome_of text))

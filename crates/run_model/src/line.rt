@@ -1,0 +1,97 @@
+use host_ids::{Entry, Key, Proposal, Text};
+
+/// A line of the output.
+///
+/// A line that speaks of a group carries it, also where it isn't printed. A line that shows a
+/// context carries the request's key. Source: this project's own.
+#[derive(Debug, Drop)]
+pub enum Line {
+    /// A host was started.
+    Started {
+        /// The host.
+        host: u8,
+        /// How often it was started by now.
+        start: u64,
+    },
+    /// A replica became leader.
+    Leader {
+        /// Its host.
+        host: u8,
+        /// Its group.
+        group: u8,
+        /// The term.
+        term: u64,
+    },
+    /// The event had nothing to do.
+    Idle,
+    /// The line of the script was refused, and changed nothing.
+    Refused {
+        /// The refusal's number.
+        number: u8,
+    },
+    /// A proposal is asked.
+    Ask {
+        /// The request.
+        key: Key,
+        /// The group.
+        group: u8,
+        /// The proposal.
+        proposal: Proposal,
+    },
+    /// A read is asked.
+    AskRead {
+        /// The request.
+        key: Key,
+        /// The group.
+        group: u8,
+        /// The query.
+        query: Text,
+    },
+    /// A command was applied.
+    Done {
+        /// The request.
+        key: Key,
+        /// The group.
+        group: u8,
+        /// The command's place in the group's list, from 1.
+        place: u64,
+        /// The reply.
+        reply: Text,
+    },
+    /// A read is answered.
+    Read {
+        /// The request.
+        key: Key,
+        /// The group.
+        group: u8,
+        /// So many places were applied.
+        front: u64,
+        /// The answer.
+        answer: Text,
+    },
+    /// A request ends at once, since no leader is known that could take it.
+    Dropped {
+        /// The request.
+        key: Key,
+        /// The group.
+        group: u8,
+    },
+    /// An entry of a group's decided list.
+    Entry {
+        /// The group.
+        group: u8,
+        /// The entry.
+        entry: Entry,
+    },
+    /// The script has as many bytes as may be.
+    LimitScript,
+    /// The words of the call are no form of it.
+    Usage,
+    /// The line of the script with this number, from 1, is none.
+    BadLine {
+        /// The number.
+        line: u64,
+    },
+    /// The last line of a run that came to its end.
+    End,
+}

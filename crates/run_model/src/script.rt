@@ -1,0 +1,75 @@
+use host_ids::{Kind, Text};
+
+/// An event at a host. Source: this project's own.
+#[derive(Debug, Drop)]
+pub enum HostEvent {
+    /// The election timeout of a replica.
+    Timeout {
+        /// The replica's group.
+        group: u8,
+    },
+    /// Takes a batch, and hands it back as saved.
+    Save {
+        /// The replica's group.
+        group: u8,
+    },
+    /// Applies entries.
+    Apply {
+        /// The replica's group.
+        group: u8,
+        /// At most so many, 1 to 200,000.
+        most: u32,
+    },
+}
+
+/// A line of a script. Hosts are 1 to 9, groups 1 to 64. Source: this project's own.
+#[derive(Debug, Drop)]
+pub enum ScriptLine {
+    /// The last line.
+    End,
+    /// Declares a host.
+    Host {
+        /// The host.
+        host: u8,
+    },
+    /// Declares a group.
+    Group {
+        /// The group.
+        group: u8,
+        /// The kind of its state machines.
+        kind: Kind,
+        /// Its voters, one byte each.
+        roster: Text,
+        /// How many sessions may stand in it, where that is said.
+        limit: Option<u32>,
+    },
+    /// An event at a host.
+    Event {
+        /// The host.
+        host: u8,
+        /// The event.
+        event: HostEvent,
+    },
+    /// Proposes a command outside every session.
+    Ask {
+        /// The host that is asked.
+        host: u8,
+        /// The group.
+        group: u8,
+        /// The request's context.
+        context: Text,
+        /// The command.
+        command: Text,
+    },
+    /// Asks for a linearizable read.
+    Read {
+        /// The host that is asked.
+        host: u8,
+        /// The group.
+        group: u8,
+        /// The request's context.
+        context: Text,
+        /// The query.
+        query: Text,
+    },
+}

@@ -1,0 +1,6 @@
+pub mod Rows
+pub mod Insert
+pub mod Parts
+pub mod Runs
+pub mod Streams
+pub mod Exact

@@ -1,0 +1,87 @@
+-- A run over a source that is under way: what was taken, what is held of it, and what was told.
+use Rattle.std.proofs.Common.{◌≡◌, ℕ, ◌+◌, ◌<◌, ◌≤◌, List, [], ◌++◌, Option, length, refl, sym, ap, ◌∙◌, append_assoc, length-append, arith}
+use Rattle.std.specs.Io.KnownBytes.{Appends, Consumes, Keeps}
+use Rattle.std.proofs.lemmas.List.{append-nil}
+use Rattle.fault_io.specs.Faults.{WritesFront}
+use Rattle.fault_io.proofs.Known.{Appends-append, Appends-none}
+use Rattle.run_model.specs.declared.told.Stop.{Stop}
+use Rattle.run_model.specs.World.{World}
+use Rattle.run_model.specs.Run.{Outcome, outcome_of, text_of, most_bytes}
+use Rattle.script_run.specs.Reach.{Ahead, HasNoFeed, Place, run_on, Leaves, StopsAt, Stopped, IsCut, GivenUp}
+use Rattle.script_run.proofs.Runs.{further, ends, at_last, reaches_on, Consumes-append, Consumes-kept}
+
+pub record Under (left_old left old now : Option (List ℕ)) (p : Place) (held script done : List ℕ) : Type 0 where
+  pub taken : Consumes left_old left script
+  pub written : Appends old now done
+  pub ahead : (more : List ℕ) → Ahead done (run_on p (held ++ more)) (outcome_of (script ++ more))
+  pub sizes : p.size + length held ≡ length script
+
+-- bytes more were taken
+pub took : (left_old left left_new old now : Option (List ℕ)) (p : Place) (held script done bytes : List ℕ) → Under left_old left old now p held script done → Consumes left left_new bytes
+    → Under left_old left_new old now p (held ++ bytes) (script ++ bytes) done
+took left_old left left_new old now p held script done bytes u c = record {
+  taken = Consumes-append left_old left left_new script bytes u.taken c;
+  written = u.written;
+  ahead = λ more. rw (append_assoc held bytes more, append_assoc script bytes more) (u.ahead (bytes ++ more));
+  sizes = rw (length-append held bytes, length-append script bytes) (omega (arith, u.sizes));
+}
+
+-- nothing was taken
+pub took_none : (left_old left left_new old now : Option (List ℕ)) (p : Place) (held script done : List ℕ) → Under left_old left old now p held script done → Keeps left left_new → Under left_old left_new old now p held script done
+took_none left_old left left_new old now p held script done u k = record { taken = Consumes-kept left_old left left_new script u.taken k; written = u.written; ahead = u.ahead; sizes = u.sizes }
+
+-- what was told before, and a front of what is told next, are a front of all
+front_of : (done told : List ℕ) (rest total : Outcome) (old now new : Option (List ℕ)) → Ahead done rest total → Appends old now done → (tail : List ℕ) → text_of rest.told ≡ told ++ tail → WritesFront now new told → WritesFront old new (text_of total.told)
+front_of done told rest total old now new a w tail e f = (
+  done ++ f.0,
+  f.1 ++ tail,
+  sym a.whole ∙ ap (λ (l : List ℕ). done ++ l) (e ∙ ap (λ (l : List ℕ). l ++ tail) f.2 ∙ append_assoc f.0 f.1 tail) ∙ sym (append_assoc done f.0 (f.1 ++ tail)),
+  Appends-append old now new done f.0 w f.3,
+)
+
+-- given up before anything more was put
+pub gave_up_here : (left_old left old now : Option (List ℕ)) (p : Place) (held script done : List ℕ) → Under left_old left old now p held script done → length script < 67121153 → GivenUp left_old left old now
+gave_up_here left_old left old now p held script done u h = record {
+  script = script;
+  taken = record { taken = u.taken; few = h };
+  front = λ more. front_of done [] (run_on p (held ++ more)) (outcome_of (script ++ more)) old now now (u.ahead more) u.written (text_of (run_on p (held ++ more)).told) refl ([], [], refl, Appends-none now);
+}
+
+-- given up while the lines of a piece were put
+pub gave_up : (left_old left old now new : Option (List ℕ)) (p q : Place) (held rest script done told : List ℕ) → Under left_old left old now p held script done → length script < 67121153 → Leaves told p held q rest → WritesFront now new told
+    → GivenUp left_old left old new
+gave_up left_old left old now new p q held rest script done told u h l f = record {
+  script = script;
+  taken = record { taken = u.taken; few = h };
+  front = λ more. front_of done told (run_on p (held ++ more)) (outcome_of (script ++ more)) old now new (u.ahead more) u.written (text_of (run_on q (rest ++ more)).told) (sym (l.ahead more).whole) f;
+}
+
+-- the lines of a piece were put
+pub went_on : (left_old left old now new : Option (List ℕ)) (p q : Place) (held rest script done told : List ℕ) → Under left_old left old now p held script done → Leaves told p held q rest → Appends now new told
+    → Under left_old left old new q rest script (done ++ told)
+went_on left_old left old now new p q held rest script done told u l w = record {
+  taken = u.taken;
+  written = Appends-append old now new done told u.written w;
+  ahead = λ more. further done told (run_on q (rest ++ more)) (run_on p (held ++ more)) (outcome_of (script ++ more)) (u.ahead more) (l.ahead more);
+  sizes = l.sizes ∙ u.sizes;
+}
+
+pub stopped_here : (left_old left old now : Option (List ℕ)) (p : Place) (held script done told : List ℕ) (stop : Stop) (world : World) → Under left_old left old now p held script done → length script < 67121153
+    → StopsAt told p held stop world → Stopped left_old left old now stop world told
+stopped_here left_old left old now p held script done told stop world u h s = record {
+  script = script;
+  taken = record { taken = u.taken; few = h };
+  done = done;
+  written = u.written;
+  reached = λ more. reaches_on done told (run_on p (held ++ more)) (outcome_of (script ++ more)) world stop (u.ahead more) (s more);
+}
+
+pub cut_here : (left_old left old now : Option (List ℕ)) (p : Place) (held script done : List ℕ) → Under left_old left old now p held script done → HasNoFeed held → length held ≤ 4096 → p.size < most_bytes
+    → IsCut left_old left old now (p.lines + 1) p.world
+cut_here left_old left old now p held script done u f s b = record {
+  script = script;
+  taken = record { taken = u.taken; few = omega (arith, u.sizes, s, b) };
+  done = done;
+  written = u.written;
+  reached = ends done (run_on p held) (outcome_of script) p.world _ (rw (append-nil held, append-nil script) at (u.ahead [])) (at_last p.world p.lines p.size held b f s);
+}

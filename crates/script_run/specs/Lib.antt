@@ -1,0 +1,6 @@
+pub mod Index
+pub mod Host
+pub mod Cell
+pub mod World
+pub mod Reach
+pub mod Top

@@ -1,0 +1,120 @@
+ghost use Rattle.std.specs.Prelude.{◌≡◌, ◌++◌, [], ◌∷◌, OnOk, decimal};
+ghost use Rattle.run_model.specs.Print.{print_line, line_text, proposal_text};
+
+use crate::buffer::Buffer;
+use host_ids::{NoMemory, Proposal, Text};
+use run_model::Line;
+
+/// Adds a space and a proposal.
+fn print_proposal(out: &mut Buffer, proposal: &Proposal) -> Result<(), NoMemory>
+    ensures { OnOk result (out.new ≡ out.old ++ (32 ∷ proposal_text proposal.now)) }
+{
+    match proposal {
+        Proposal::Blank => out.word(b"blank"),
+        Proposal::Plain { command } => out.payload(command.bytes()),
+        Proposal::Session {
+            client,
+            series,
+            responded,
+            command,
+        } => {
+            out.word(b"call")?;
+            out.number(*client)?;
+            out.number(*series)?;
+            out.number(*responded)?;
+            out.payload(command.bytes())
+        }
+        Proposal::Register { client } => {
+            out.word(b"register")?;
+            out.number(*client)
+        }
+        Proposal::Close { client } => {
+            out.word(b"close")?;
+            out.number(*client)
+        }
+    }
+}
+
+/// Adds a word, and numbers behind it.
+fn print_numbers(out: &mut Buffer, verb: &[u8], first: u64, second: u64) -> Result<(), NoMemory>
+    ensures { OnOk result (out.new ≡ ((out.old ++ verb.now) ++ (32 ∷ decimal first)) ++ (32 ∷ decimal second)) }
+{
+    out.text(verb)?;
+    out.number(first)?;
+    out.number(second)
+}
+
+/// Adds a word, a context and a number.
+fn print_context(out: &mut Buffer, verb: &[u8], context: &Text, number: u64) -> Result<(), NoMemory>
+    ensures { OnOk result (out.new ≡ ((out.old ++ verb.now) ++ (32 ∷ context.now)) ++ (32 ∷ decimal number)) }
+{
+    out.text(verb)?;
+    out.word(context.bytes())?;
+    out.number(number)
+}
+
+/// Adds a line without its line feed.
+fn print_text(out: &mut Buffer, context: &Text, line: &Line) -> Result<(), NoMemory>
+    ensures { OnOk result (out.new ≡ out.old ++ line_text context.now line.now) }
+{
+    match line {
+        Line::Started { host, start } => {
+            print_numbers(out, b"started", u64::from(*host), *start)
+        }
+        Line::Leader { host, group, term } => {
+            print_numbers(out, b"leader", u64::from(*host), u64::from(*group))?;
+            out.number(*term)
+        }
+        Line::Idle => out.text(b"idle"),
+        Line::Refused { number } => {
+            out.text(b"refused")?;
+            out.number(u64::from(*number))
+        }
+        Line::Ask {
+            group,
+            proposal,
+            ..
+        } => {
+            print_context(out, b"ask", context, u64::from(*group))?;
+            print_proposal(out, proposal)
+        }
+        Line::AskRead { group, query, .. } => {
+            print_context(out, b"ask", context, u64::from(*group))?;
+            out.word(b"read")?;
+            out.payload(query.bytes())
+        }
+        Line::Done { place, reply, .. } => {
+            print_context(out, b"done", context, *place)?;
+            out.payload(reply.bytes())
+        }
+        Line::Read { front, answer, .. } => {
+            print_context(out, b"read", context, *front)?;
+            out.payload(answer.bytes())
+        }
+        Line::Dropped { .. } => {
+            out.text(b"dropped")?;
+            out.word(context.bytes())
+        }
+        Line::Entry { group, entry } => {
+            print_numbers(out, b"entry", u64::from(*group), entry.index)?;
+            out.word(context.bytes())?;
+            print_proposal(out, &entry.proposal)
+        }
+        Line::LimitScript => out.text(b"limit script 67108864"),
+        Line::Usage => out.text(b"usage"),
+        Line::BadLine { line } => {
+            out.text(b"badline")?;
+            out.number(*line)
+        }
+        Line::End => out.text(b"end"),
+    }
+}
+
+/// Adds a line of the output.
+#[tactic(auto, unfolding(run_model::specs::Print::print_line))]
+pub fn print_line(out: &mut Buffer, context: &Text, line: &Line) -> Result<(), NoMemory>
+    ensures { OnOk result (out.new ≡ out.old ++ print_line context.now line.now) }
+{
+    print_text(out, context, line)?;
+    out.text(b"\n")
+}

@@ -1,13 +1,10 @@
 -- The lines of a script, and what each is as bytes. Source: this project's own.
-use Rattle.std.specs.Prelude.{ℕ, ◌∷◌, [], List, ◌==◌, ◌&&◌, Bool, true, false, Option, Some, None, codes, bytes_eq, nat_lt, length, if◌then◌else◌}
+use Rattle.std.specs.Prelude.{ℕ, ◌∷◌, [], List, ◌==◌, ◌&&◌, Bool, Option, Some, None, codes, bytes_eq, nat_lt, length, if◌then◌else◌}
+use Rattle.std.specs.Option.{is_some}
 use Rattle.host_ids.specs.declared.kind.Kind.TheVariants as kinds
 use Rattle.run_model.specs.declared.script.ScriptLine.{ScriptLine}
 use Rattle.run_model.specs.declared.script.ScriptLine.TheVariants as lines
 use Rattle.run_model.specs.declared.script.HostEvent.TheVariants as events
-use Rattle.object_model.specs.declared.command.Command.{Command}
-use Rattle.object_model.specs.declared.command.Command.TheVariants as commands
-use Rattle.object_model.specs.declared.command.Query.{Query}
-use Rattle.object_model.specs.declared.command.Query.TheVariants as queries
 use Rattle.object_model.specs.Words.{words_of, word, begins, is_name, number_of}
 use Rattle.object_model.specs.Command.{command_of, query_of}
 
@@ -44,26 +41,13 @@ abbrev pub apply_by : Option ℕ → Option ScriptLine
 apply_by None = None
 apply_by (Some most) = if most == 0 then None else Some (lines.Event 1 (events.Apply 1 most))
 
--- of the commands a put alone, until the others are built
-abbrev pub is_built : Option Command → Bool
-is_built None = false
-is_built (Some (commands.Put key value)) = true
-is_built (Some (commands.Del key)) = false
-is_built (Some (commands.Add key number)) = false
-
--- of the queries a get alone, until the others are built
-abbrev pub is_asked : Option Query → Bool
-is_asked None = false
-is_asked (Some (queries.Get key)) = true
-is_asked (Some queries.Count) = false
-
 -- `ask 1 1 CTX COMMAND`
 abbrev pub ask_line : List (List ℕ) → List ℕ → Option ScriptLine
-ask_line words text = if_so (is_name (word words 3) 16 && is_built (command_of text)) (lines.Ask 1 1 (word words 3) text)
+ask_line words text = if_so (is_name (word words 3) 16 && is_some (command_of text)) (lines.Ask 1 1 (word words 3) text)
 
 -- `read 1 1 CTX QUERY`
 abbrev pub read_request : List (List ℕ) → List ℕ → Option ScriptLine
-read_request words text = if_so (is_name (word words 3) 16 && is_asked (query_of text)) (lines.Read 1 1 (word words 3) text)
+read_request words text = if_so (is_name (word words 3) 16 && is_some (query_of text)) (lines.Read 1 1 (word words 3) text)
 
 -- `timeout 1 1`, `save 1 1`, `apply 1 1 N`, and requests
 abbrev pub later_line : List (List ℕ) → List ℕ → Option ScriptLine

@@ -2,10 +2,10 @@ ghost use Rattle.std.specs.Prelude.{◌≡◌, ◌≤◌, IfOk, IfSome};
 ghost use Rattle.std.specs.Option.{option_copied};
 ghost use Rattle.object_model.specs.Words.{word, is_name, number_of};
 ghost use Rattle.object_model.specs.Command.{command_of, query_of};
-ghost use Rattle.run_model.specs.Script.{apply_by, ask_line, behind_four, behind_space, group_line, host_line, is_asked, is_built, is_ours, later_line, line_at, read_line, read_request};
+ghost use Rattle.run_model.specs.Script.{apply_by, ask_line, behind_four, behind_space, group_line, host_line, is_ours, later_line, line_at, read_line, read_request};
 
 use host_ids::{Kind, NoMemory, Text};
-use object_model::{Command, Query, Words, command_of, is_name, number_of, query_of};
+use object_model::{Words, command_of, is_name, number_of, query_of};
 use run_model::{HostEvent, ScriptLine};
 use std::alloc::Global;
 
@@ -76,34 +76,13 @@ fn apply_by(most: Option<u64>) -> Option<ScriptLine>
     }
 }
 
-fn is_built(command: Option<&Command>) -> bool
-    ensures { result ≡ is_built (option_copied command.entry) }
-{
-    match command {
-        None => false,
-        Some(Command::Put { .. }) => true,
-        Some(Command::Del { .. } | Command::Add { .. }) => false,
-    }
-}
-
-fn is_asked(query: Option<&Query>) -> bool
-    ensures { result ≡ is_asked (option_copied query.entry) }
-{
-    match query {
-        None => false,
-        Some(Query::Get { .. }) => true,
-        Some(Query::Count) => false,
-    }
-}
-
 fn ask_line(alloc: Global, words: &Words<'_>, text: &[u8]) -> Result<Option<ScriptLine>, NoMemory>
     ensures { IfOk result (λ line. line ≡ ask_line words.now text.now) }
 {
     if !is_name(words.word(3), 16) {
         return Ok(None);
     }
-    let command = command_of(alloc, text)?;
-    if !is_built(command.as_ref()) {
+    if command_of(alloc, text)?.is_none() {
         return Ok(None);
     }
     Ok(Some(ScriptLine::Ask {
@@ -124,8 +103,7 @@ fn read_request(
     if !is_name(words.word(3), 16) {
         return Ok(None);
     }
-    let query = query_of(alloc, text)?;
-    if !is_asked(query.as_ref()) {
+    if query_of(alloc, text)?.is_none() {
         return Ok(None);
     }
     Ok(Some(ScriptLine::Read {

@@ -103,9 +103,14 @@ fn worked_scripts(rt: HostRuntime) -> Result<(), Fail> {
         ("end\nwhat follows is not judged", 0, "end\n"),
         ("host 1\n\nend\n", 3, "started 1 1\nbadline 2\n"),
         (
-            "host 1\ngroup 1 regular 1\nask 1 1 a del x\nend\n",
+            "host 1\ngroup 1 regular 1\nask 1 1 a put X 1\nend\n",
             3,
             "started 1 1\nbadline 3\n",
+        ),
+        (
+            "host 1\ngroup 1 regular 1\ntimeout 1 1\nsave 1 1\nsave 1 1\nask 1 1 a put n 18446744073709551615\nask 1 1 b add n 1\nask 1 1 c put n 07\nask 1 1 d add n 1\nask 1 1 e del n\nask 1 1 f add m 2\nsave 1 1\napply 1 1 9\nread 1 1 g count\nend\n",
+            0,
+            "started 1 1\nleader 1 1 1\nask a 1 put n 18446744073709551615\nask b 1 add n 1\nask c 1 put n 07\nask d 1 add n 1\nask e 1 del n\nask f 1 add m 2\ndone a 2 -\ndone b 3 !\ndone c 4 18446744073709551615\ndone d 5 !\ndone e 6 07\ndone f 7 2\nask g 1 read count\nread g 7 1\nentry 1 1 - blank\nentry 1 2 a put n 18446744073709551615\nentry 1 3 b add n 1\nentry 1 4 c put n 07\nentry 1 5 d add n 1\nentry 1 6 e del n\nentry 1 7 f add m 2\nend\n",
         ),
         (
             "host 1\ngroup 1 regular 1\nsave 1 1\napply 1 1 1\ntimeout 1 1\nsave 1 1\ntimeout 1 1\nend\n",

@@ -93,8 +93,8 @@ fn run_script<S: Source, K: Sink>(alloc: Global, source: &mut S, sink: &mut K) -
 /// what each of its lines gives.
 ///
 /// It takes at most 8,192 bytes at a time, and has put all that the whole lines of a piece print
-/// before it takes the next piece. Other words print `usage`, and take nothing; a fault of the sink
-/// is ignored then.
+/// before it takes the next piece. Other words print `usage` (`usage_line`), and take
+/// nothing (`usage_take`); a fault of the sink is ignored then.
 ///
 /// Statuses, each with the clause that ties it to its cause: 0 at the word `end` (`done`), and then
 /// the whole output is legal for each group by the entries that it shows (`headline`); 2 where the
@@ -112,6 +112,7 @@ pub fn run_top<S: Source, K: Sink>(
 ) -> Status
     ensures usage { (result.number ≡ 2) ↔ (is_run words.now ≡ false) }
     ensures usage_line { result.number ≡ 2 → WritesFront (K.contents sink.old) (K.contents sink.new) usage }
+    ensures usage_take { result.number ≡ 2 → S.left source.new ≡ S.left source.old }
     ensures bound { Takes (S.left source.old) (S.left source.new) 67121153 }
     ensures read_fault { result.number ≡ 4 → Rose (S.fault_count source.old) (S.fault_count source.new) }
     ensures write_fault { result.number ≡ 5 → Rose (K.fault_count sink.old) (K.fault_count sink.new) }

@@ -7,6 +7,8 @@ pub mod Joining
 pub mod Applying
 pub mod Going
 pub mod Asking
+pub mod Turns
 pub mod Steps
 pub mod Others
 pub mod Running
+pub mod Ends

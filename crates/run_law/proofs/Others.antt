@@ -1,13 +1,12 @@
 -- A run tells nothing of any group but 1.
 use Rattle.std.proofs.Common.{◌≡◌, ℕ, ◌+◌, ◌==◌, List, [], ◌∷◌, ◌++◌, Bool, false, Option, Some, None, cond, length, map, refl}
-use Rattle.std.specs.Prelude.{nat_le, nat_lt}
+use Rattle.std.specs.Prelude.{nat_lt}
 use Rattle.std.proofs.lemmas.Bool.{cond_both}
 use Rattle.host_ids.specs.declared.entry.Key.{Key}
 use Rattle.host_ids.specs.declared.entry.Entry.{Entry}
 use Rattle.host_ids.specs.declared.proposal.Proposal.{Proposal}
 use Rattle.host_ids.specs.declared.proposal.Proposal.TheVariants as proposals
-use Rattle.run_model.specs.declared.script.ScriptLine.{ScriptLine}
-use Rattle.run_model.specs.declared.script.ScriptLine.TheVariants as script
+use Rattle.run_model.specs.declared.script.Setup.TheVariants as setups
 use Rattle.run_model.specs.declared.script.HostEvent.{HostEvent}
 use Rattle.run_model.specs.declared.script.HostEvent.TheVariants as events
 use Rattle.run_model.specs.declared.told.Told.{Told}
@@ -18,12 +17,13 @@ use Rattle.run_model.specs.declared.told.Stop.TheVariants.{Ended, Bad, Full, Spe
 use Rattle.run_model.specs.declared.line.Line.TheVariants as lines
 use Rattle.run_model.specs.Replica
 use Rattle.run_model.specs.World.{World, Cell, start}
-use Rattle.run_model.specs.Script.{read_line}
+use Rattle.run_model.specs.Script.{parts_of}
 use Rattle.run_model.specs.Run
-use Rattle.run_model.specs.Run.{Step, Outcome, applied, answered, step, run}
+use Rattle.run_model.specs.Run.{Step, applied, answered}
 use Rattle.run_model.specs.Marks.{marks_of}
 use Rattle.run_law.proofs.Joining.{marks_of-append}
 use Rattle.run_law.proofs.Going.{notes_marks}
+use Rattle.run_law.proofs.Turns.{Between, IsDone, run_done}
 
 -- the group isn't 1
 pub record IsOther (g : ℕ) : Type 0 where
@@ -67,7 +67,7 @@ answered_silent g contexts c [] ws n = refl
 answered_silent g contexts c (key ∷ keys) ws n =
     both_silent g (Run.answer_told contexts c key (Run.want_of key ws)) (answered contexts c keys (Run.without key ws)).told (answer_silent g contexts c key (Run.want_of key ws) n) (answered_silent g contexts c keys (Run.without key ws) n)
 
--- ---- each line of a script
+-- ---- each event
 
 by_cond : (g : ℕ) (b : Bool) (x y : Step) → IsSilent g x.told → IsSilent g y.told → IsSilent g (cond b x y).told
 by_cond g b x y p q = cond_both b x y (λ (s : Step). IsSilent g s.told) (λ _. p) (λ _. q)
@@ -91,34 +91,27 @@ read_silent g w context query row n =
     by_cond g (Run.is_dropped row) _ _ (rw n.differs refl)
     (by_cond g (Run.is_reached (Run.confirmed_index row.notes) w.cell.applied) _ _ (rw n.differs refl) (rw n.differs refl))
 
-line_silent : (g : ℕ) (w : World) (said : ScriptLine) → IsOther g → IsSilent g (step said w).told
-unfolding step
-line_silent g w script.End n = refl
-line_silent g w (script.Host host) n = refl
-line_silent g w (script.Group group kind roster most) n = refl
-line_silent g w (script.Event host event) n = event_silent g w event n
-line_silent g w (script.Ask host group context command) n =
+ask_silent : (g : ℕ) (w : World) (context command : List ℕ) → IsOther g → IsSilent g (Run.ask w context command).told
+ask_silent g w context command n =
     by_cond g (Run.is_used w context) _ _ refl (by_cond g (nat_lt 512 (length command)) _ _ refl (proposed_silent g w context (proposals.Plain command) (Replica.on_local_proposal (Run.next_key w) (proposals.Plain command) w.replica) n))
-line_silent g w (script.Read host group context query) n = by_cond g (Run.is_used w context) _ _ refl (read_silent g w context query (Replica.on_local_read (Run.next_key w) w.replica) n)
+
+reads_silent : (g : ℕ) (w : World) (context query : List ℕ) → IsOther g → IsSilent g (Run.reads w context query).told
+reads_silent g w context query n = by_cond g (Run.is_used w context) _ _ refl (read_silent g w context query (Replica.on_local_read (Run.next_key w) w.replica) n)
 
 -- ---- the run
 
-cond_silent : (g : ℕ) (b : Bool) (x y : Outcome) → IsSilent g x.told → IsSilent g y.told → IsSilent g (cond b x y).told
-cond_silent g b x y p q = cond_both b x y (λ (o : Outcome). IsSilent g o.told) (λ _. p) (λ _. q)
+abbrev Says : ℕ → Between
+Says g w told v = IsSilent g told
 
-goes_silent : (g : ℕ) (w : World) (n : ℕ) (said : Option ScriptLine) (more : ScriptLine → Outcome) → ((line : ScriptLine) → IsSilent g (more line).told) → IsSilent g (Run.goes_on said more w n).told
-goes_silent g w n None more h = refl
-goes_silent g w n (Some line) more h = cond_silent g (Run.is_end line) (Run.stops w Ended) (more line) refl (h line)
-
-run_silent : (g : ℕ) (w : World) (n size : ℕ) (parts : List (List ℕ)) → IsOther g → IsSilent g (run w n size parts).told
-unfolding run
-run_silent g w n size [] o = refl
-run_silent g w n size (line ∷ []) o = cond_silent g (nat_le Run.most_bytes size) (Run.stops w Full) (Run.stops w (Run.cut_short n line)) refl refl
-run_silent g w n size (line ∷ next ∷ more) o =
-    let rest = λ (said : ScriptLine). Run.told_before (step said w).told (run (step said w).world (n + 1) (size + (length line + 1)) (next ∷ more)) in
-    cond_silent g (nat_le Run.most_bytes size) (Run.stops w Full) (Run.goes_on (read_line n line) rest w n) refl
-    (goes_silent g w n (read_line n line) rest
-    (λ said. both_silent g (step said w).told (run (step said w).world (n + 1) (size + (length line + 1)) (next ∷ more)).told (line_silent g w said o) (run_silent g (step said w).world (n + 1) (size + (length line + 1)) (next ∷ more) o)))
+silence_done : (g : ℕ) → IsOther g → IsDone (Says g)
+silence_done g n = record {
+  nothing = λ w. refl;
+  next = λ u v w a b p q. both_silent g a b p q;
+  started = λ w host. refl;
+  event = λ w event. event_silent g w event n;
+  ask = λ w context command. ask_silent g w context command n;
+  read = λ w context query. reads_silent g w context query n;
+}
 
 entries_silent : (g : ℕ) (w : World) (es : List Entry) → IsOther g → IsSilent g (map (Run.entry_told w) es)
 entries_silent g w [] n = refl
@@ -127,12 +120,12 @@ entries_silent g w (e ∷ es) n = rw (n.differs, entries_silent g w es n) refl
 last_silent : (g : ℕ) (w : World) (stop : Stop) → IsOther g → IsSilent g (Run.ending stop w)
 last_silent g w Ended n = both_silent g (map (Run.entry_told w) (Run.decided_entries w)) (Run.bare lines.End ∷ []) (entries_silent g w (Run.decided_entries w) n) refl
 last_silent g w (Bad line) n = refl
-last_silent g w Full n = refl
+last_silent g w (Full limit) n = refl
 last_silent g w (Spent line) n = refl
 
 -- the lines before the last ones, and all of them
 pub so_far_silent : (g : ℕ) (text : List ℕ) → IsOther g → IsSilent g (Run.outcome_of text).told
-so_far_silent g text n = run_silent g start 0 0 (Run.parts_of text) n
+so_far_silent g text n = run_done (Says g) (silence_done g n) setups.Nothing start 0 0 (parts_of text)
 
 pub all_silent : (g : ℕ) (text : List ℕ) → IsOther g → IsSilent g (Run.all_told (Run.outcome_of text))
 all_silent g text n =

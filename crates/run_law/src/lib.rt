@@ -1,7 +1,9 @@
-//! Every run is legal: its worlds move as desks do, step by step.
+//! Every run is legal: its worlds move as desks do, step by step. A run over a script of the grammar
+//! comes to its end, or to a limit.
 #![tactic(auto)]
 
 ghost use Rattle.run_law.specs.Lawful.{RunsAreLegal, RunsAreLegalSoFar};
+ghost use Rattle.run_law.specs.Complete.{ScriptsEnd};
 
 use object_model::moves_are_legal;
 
@@ -14,3 +16,9 @@ pub fn runs_are_legal()
 {
     moves_are_legal();
 }
+
+/// A run over a script whose lines up to the word `end` are lines of the grammar, each where it may
+/// stand, stops at that word, or at a limit that it reaches before. Source: this project's own.
+pub fn scripts_end()
+    ensures { ScriptsEnd }
+{}

@@ -23,7 +23,7 @@ line_marks g context (lines.Done key group place reply) = of_group g group (mark
 line_marks g context (lines.Read key group front answer) = of_group g group (marks.Reads context front answer)
 line_marks g context (lines.Dropped key group) = of_group g group (marks.Leaves context)
 line_marks g context (lines.Entry group entry) = of_group g group (marks.Shows (record { context = context; proposal = entry.proposal }))
-line_marks g context lines.LimitScript = []
+line_marks g context (lines.Reached limit) = []
 line_marks g context lines.Usage = []
 line_marks g context (lines.BadLine line) = []
 line_marks g context lines.End = []

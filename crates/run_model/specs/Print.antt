@@ -2,6 +2,8 @@
 use Rattle.std.specs.Prelude.{ℕ, List, [], ◌∷◌, ◌++◌, ◌&&◌, codes, decimal, map, nat_le, if◌then◌else◌}
 use Rattle.host_ids.specs.declared.proposal.Proposal.{Proposal}
 use Rattle.host_ids.specs.declared.proposal.Proposal.TheVariants as proposals
+use Rattle.run_model.specs.declared.limit.Limit.{Limit}
+use Rattle.run_model.specs.declared.limit.Limit.TheVariants as limits
 use Rattle.run_model.specs.declared.line.Line.{Line}
 use Rattle.run_model.specs.declared.line.Line.TheVariants as lines
 
@@ -25,6 +27,10 @@ proposal_text (proposals.Session client series responded command) = codes "call"
 proposal_text (proposals.Register client) = codes "register" · decimal client
 proposal_text (proposals.Close client) = codes "close" · decimal client
 
+abbrev pub limit_text : Limit → List ℕ
+limit_text limits.Entries = codes "limit entries 200000"
+limit_text limits.Script = codes "limit script 67108864"
+
 abbrev pub line_text : List ℕ → Line → List ℕ
 line_text context (lines.Started host start) = codes "started" · decimal host · decimal start
 line_text context (lines.Leader host group term) = codes "leader" · decimal host · decimal group · decimal term
@@ -36,7 +42,7 @@ line_text context (lines.Done key group place reply) = codes "done" · context �
 line_text context (lines.Read key group front answer) = codes "read" · context · decimal front · shown_text answer
 line_text context (lines.Dropped key group) = codes "dropped" · context
 line_text context (lines.Entry group entry) = codes "entry" · decimal group · decimal entry.index · context · proposal_text entry.proposal
-line_text context lines.LimitScript = codes "limit script 67108864"
+line_text context (lines.Reached limit) = limit_text limit
 line_text context lines.Usage = codes "usage"
 line_text context (lines.BadLine line) = codes "badline" · decimal line
 line_text context lines.End = codes "end"

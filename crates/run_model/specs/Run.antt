@@ -1,6 +1,6 @@
 -- A run: what each line of a script does to the world, and the lines that it prints. Source: this project's own.
-use Rattle.std.specs.Prelude.{ℕ, ◌+◌, ◌-◌, ◌==◌, List, [], ◌∷◌, ◌++◌, Bool, true, false, Option, Some, None, nat_lt, nat_le, length, take, drop, min, map, slice_get, unwrap_or, codes, bytes_eq, if◌then◌else◌}
-use Rattle.std.specs.List.{list_any, slice_split, flat_map}
+use Rattle.std.specs.Prelude.{ℕ, zero, suc, ◌+◌, ◌-◌, ◌==◌, List, [], ◌∷◌, ◌++◌, Bool, true, false, ◌||◌, Option, Some, None, nat_lt, nat_le, length, take, drop, min, map, slice_get, unwrap_or, codes, bytes_eq, if◌then◌else◌}
+use Rattle.std.specs.List.{list_any, flat_map}
 use Rattle.std.specs.BTreeMap.{insert_entry, is_at}
 use Rattle.std.specs.BTreeSet.{insert_key}
 use Rattle.std.specs.Map.{lookup, remove_entry}
@@ -11,8 +11,12 @@ use Rattle.host_ids.specs.declared.proposal.Proposal.TheVariants as proposals
 use Rattle.object_model.specs.Object.{after, answer}
 use Rattle.run_model.specs.declared.script.ScriptLine.{ScriptLine}
 use Rattle.run_model.specs.declared.script.ScriptLine.TheVariants as script
+use Rattle.run_model.specs.declared.script.Setup.{Setup}
+use Rattle.run_model.specs.declared.script.Setup.TheVariants as setups
 use Rattle.run_model.specs.declared.script.HostEvent.{HostEvent}
 use Rattle.run_model.specs.declared.script.HostEvent.TheVariants as events
+use Rattle.run_model.specs.declared.limit.Limit.{Limit}
+use Rattle.run_model.specs.declared.limit.Limit.TheVariants as limits
 use Rattle.run_model.specs.declared.line.Line.{Line}
 use Rattle.run_model.specs.declared.line.Line.TheVariants as lines
 use Rattle.run_model.specs.declared.replica.Note.{Note}
@@ -24,9 +28,9 @@ use Rattle.run_model.specs.declared.told.Waiting.{Waiting}
 use Rattle.run_model.specs.declared.told.Stop.{Stop}
 use Rattle.run_model.specs.declared.told.Stop.TheVariants.{Ended, Bad, Full, Spent}
 use Rattle.run_model.specs.declared.replica.Replica.{Replica}
-use Rattle.run_model.specs.Replica.{Row, on_timeout, on_save, on_local_proposal, on_local_read, ripe}
+use Rattle.run_model.specs.Replica.{Row, on_timeout, on_save, on_local_proposal, on_local_read, ripe, last, is_changed, is_pending}
 use Rattle.run_model.specs.World.{Cell, Open, World, start, key_order, waiting_order}
-use Rattle.run_model.specs.Script.{read_line}
+use Rattle.run_model.specs.Script.{read_line, setup_after, is_end, parts_of}
 use Rattle.run_model.specs.Print.{print_line}
 
 -- ---- lines with the contexts that they show
@@ -245,24 +249,107 @@ applies w a = record {
   told = a.told ++ (answers_due w a).told;
 }
 
-abbrev pub apply : World → ℕ → Step
-apply w most =
-    if nat_lt w.cell.applied (ripe w.replica) then applies w (applied w.contexts (next_entries w most) w.cell w.requests.wants) else tells w lines.Idle
+-- an entry may be applied
+abbrev pub is_ripe : World → Bool
+is_ripe w = nat_lt w.cell.applied (ripe w.replica)
 
--- ---- lines
+abbrev pub apply : World → ℕ → Step
+apply w most = if is_ripe w then applies w (applied w.contexts (next_entries w most) w.cell w.requests.wants) else tells w lines.Idle
 
 abbrev pub event_step : HostEvent → World → Step
 event_step (events.Timeout group) w = timeout w
 event_step (events.Save group) w = save w
 event_step (events.Apply group most) w = apply w most
 
-unfoldable pub step : ScriptLine → World → Step
-step script.End w = quiet w
-step (script.Host host) w = tells w (lines.Started host 1)
-step (script.Group group kind roster limit) w = quiet w
-step (script.Event host event) w = event_step event w
-step (script.Ask host group context command) w = ask w context command
-step (script.Read host group context query) w = reads w context query
+-- ---- limits
+
+-- a run stops where leaders have appended so many entries
+abbrev pub most_entries : ℕ
+most_entries = 200000
+
+-- a run stops where the lines that were read have so many bytes
+abbrev pub most_bytes : ℕ
+most_bytes = 67108864
+
+-- the entries that leaders have appended: with one voter, which loses none, all that its log holds
+abbrev pub appended_entries : World → ℕ
+appended_entries w = last w.replica
+
+-- the first limit that is reached, where the lines that were read have so many bytes
+unfoldable pub reached : World → ℕ → Option Limit
+reached w size = if nat_le most_entries (appended_entries w) then Some limits.Entries else (if nat_le most_bytes size then Some limits.Script else None)
+
+-- ---- lines
+
+-- what a line of the script comes to: the world after it, the lines of its events, and the limit that was reached before one of them
+pub record Turn : Type 0 where
+  pub world : World
+  pub told : List Told
+  pub full : Option Limit
+
+abbrev pub whole : Step → Turn
+whole s = record { world = s.world; told = s.told; full = None }
+
+abbrev pub tried_by : Option Limit → World → Step → Turn
+tried_by None w s = whole s
+tried_by (Some limit) w s = record { world = w; told = []; full = Some limit }
+
+-- one of several events of a line: the limits are tried before it
+abbrev pub tried : ℕ → World → Step → Turn
+tried size w s = tried_by (reached w size) w s
+
+abbrev pub behind : List Told → Turn → Turn
+behind told t = record t { told = told ++ t.told }
+
+abbrev pub then_by : Option Limit → Turn → (World → Turn) → Turn
+then_by None t next = behind t.told (next t.world)
+then_by (Some limit) t next = t
+
+-- what comes next, where no limit was reached
+abbrev pub then_turn : Turn → (World → Turn) → Turn
+then_turn t next = then_by t.full t next
+
+-- what is to be done where there is something to do
+abbrev pub where_busy : Bool → World → (World → Turn) → Turn
+where_busy false w next = whole (quiet w)
+where_busy true w next = next w
+
+-- a batch is pending, or something changed
+abbrev pub is_unsaved : World → Bool
+is_unsaved w = is_pending w.replica.pending || is_changed w.replica
+
+abbrev pub save_tried : ℕ → World → Turn
+save_tried size w = where_busy (is_unsaved w) w (λ v. tried size v (save v))
+
+abbrev pub apply_tried : ℕ → World → Turn
+apply_tried size w = where_busy (is_ripe w) w (λ v. tried size v (apply v 200000))
+
+-- a round saves where something is unsaved, and then applies where an entry is ripe
+abbrev pub round : ℕ → World → Turn
+round size w = then_turn (save_tried size w) (apply_tried size)
+
+-- a round has something to do
+abbrev pub is_busy : World → Bool
+is_busy w = is_unsaved w || is_ripe w
+
+-- at most so many rounds, until one has nothing to do
+unfoldable pub settle : ℕ → ℕ → World → Turn
+settle zero size w = whole (quiet w)
+settle (suc rounds) size w = where_busy (is_busy w) w (λ v. then_turn (round size v) (λ u. settle rounds size u))
+
+abbrev pub most_rounds : ℕ
+most_rounds = 64
+
+-- a line, where the lines that were read have so many bytes with it
+unfoldable pub turn : ScriptLine → ℕ → World → Turn
+turn script.Skipped size w = whole (quiet w)
+turn script.End size w = whole (quiet w)
+turn (script.Host host) size w = whole (tells w (lines.Started host 1))
+turn (script.Group group kind roster limit) size w = whole (quiet w)
+turn (script.Event host event) size w = whole (event_step event w)
+turn (script.Ask host group context command) size w = whole (ask w context command)
+turn (script.Read host group context query) size w = whole (reads w context query)
+turn (script.Settle group) size w = settle most_rounds size w
 
 -- ---- the run
 
@@ -278,17 +365,17 @@ stops w s = record { told = []; stop = s; world = w }
 abbrev pub told_before : List Told → Outcome → Outcome
 told_before told o = record o { told = told ++ o.told }
 
--- the lines that were read have at most so many bytes before one more is tried
-abbrev pub most_bytes : ℕ
-most_bytes = 67108864
+abbrev pub after_by : Option Limit → Turn → (World → Outcome) → Outcome
+after_by None t next = told_before t.told (next t.world)
+after_by (Some limit) t next = told_before t.told (stops t.world (Full limit))
 
-abbrev pub is_end : ScriptLine → Bool
-is_end script.End = true
-is_end (script.Host host) = false
-is_end (script.Group group kind roster limit) = false
-is_end (script.Event host event) = false
-is_end (script.Ask host group context command) = false
-is_end (script.Read host group context query) = false
+-- a run goes on behind a line, where no limit was reached in it
+abbrev pub after_turn : Turn → (World → Outcome) → Outcome
+after_turn t next = after_by t.full t next
+
+abbrev pub unless_full : Option Limit → World → (World → Outcome) → Outcome
+unless_full None w next = next w
+unless_full (Some limit) w next = stops w (Full limit)
 
 abbrev pub goes_on : Option ScriptLine → (ScriptLine → Outcome) → World → ℕ → Outcome
 goes_on None more w n = stops w (Bad (n + 1))
@@ -298,20 +385,17 @@ goes_on (Some line) more w n = if is_end line then stops w Ended else more line
 abbrev pub cut_short : ℕ → List ℕ → Stop
 cut_short n line = if nat_lt 4096 (length line) then Bad (n + 1) else Spent (n + 1)
 
--- a run over the parts between line feeds, of which the last is no whole line, after n lines of so many bytes: the limit is tried before each line
-unfoldable pub run : World → ℕ → ℕ → List (List ℕ) → Outcome
-run w n size [] = stops w (Spent (n + 1))
-run w n size (line ∷ []) = if nat_le most_bytes size then stops w Full else stops w (cut_short n line)
-run w n size (line ∷ next ∷ more) =
-    if nat_le most_bytes size then stops w Full
-    else goes_on (read_line n line)
-    (λ said. told_before (step said w).told (run (step said w).world (n + 1) (size + (length line + 1)) (next ∷ more))) w n
-
-abbrev pub parts_of : List ℕ → List (List ℕ)
-parts_of text = slice_split (λ b. b == 10) text
+-- a run over the parts between line feeds, of which the last is no whole line, where so much is declared, after n lines of so many bytes: the limits are tried before each line
+unfoldable pub run : Setup → World → ℕ → ℕ → List (List ℕ) → Outcome
+run setup w n size [] = stops w (Spent (n + 1))
+run setup w n size (line ∷ []) = unless_full (reached w size) w (λ v. stops v (cut_short n line))
+run setup w n size (line ∷ next ∷ more) =
+    unless_full (reached w size) w
+    (λ v. goes_on (read_line setup line)
+    (λ said. after_turn (turn said (size + (length line + 1)) v) (λ u. run (setup_after said setup) u (n + 1) (size + (length line + 1)) (next ∷ more))) v n)
 
 abbrev pub outcome_of : List ℕ → Outcome
-outcome_of text = run start 0 0 (parts_of text)
+outcome_of text = run setups.Nothing start 0 0 (parts_of text)
 
 abbrev pub text_of : List Told → List ℕ
 text_of told = flat_map (λ t. print_line t.context t.line) told
@@ -327,7 +411,7 @@ entry_told w e = shows w.contexts e.key (lines.Entry 1 e)
 abbrev pub ending : Stop → World → List Told
 ending Ended w = map (entry_told w) (decided_entries w) ++ bare lines.End ∷ []
 ending (Bad line) w = bare (lines.BadLine line) ∷ []
-ending Full w = bare lines.LimitScript ∷ []
+ending (Full limit) w = bare (lines.Reached limit) ∷ []
 ending (Spent line) w = bare (lines.BadLine line) ∷ []
 
 abbrev pub all_told : Outcome → List Told

@@ -1,10 +1,13 @@
 -- The lines of a script, and what each is as bytes. Source: this project's own.
-use Rattle.std.specs.Prelude.{ℕ, ◌∷◌, [], List, ◌==◌, ◌&&◌, Bool, Option, Some, None, codes, bytes_eq, nat_lt, length, if◌then◌else◌}
+use Rattle.std.specs.Prelude.{ℕ, ◌∷◌, [], List, ◌==◌, ◌&&◌, ◌||◌, Bool, true, false, Option, Some, None, codes, bytes_eq, nat_lt, length, if◌then◌else◌}
+use Rattle.std.specs.List.{slice_split}
 use Rattle.std.specs.Option.{is_some}
 use Rattle.host_ids.specs.declared.kind.Kind.TheVariants as kinds
 use Rattle.run_model.specs.declared.script.ScriptLine.{ScriptLine}
 use Rattle.run_model.specs.declared.script.ScriptLine.TheVariants as lines
 use Rattle.run_model.specs.declared.script.HostEvent.TheVariants as events
+use Rattle.run_model.specs.declared.script.Setup.{Setup}
+use Rattle.run_model.specs.declared.script.Setup.TheVariants as setups
 use Rattle.object_model.specs.Words.{words_of, word, begins, is_name, number_of}
 use Rattle.object_model.specs.Command.{command_of, query_of}
 
@@ -49,7 +52,11 @@ ask_line words text = if_so (is_name (word words 3) 16 && is_some (command_of te
 abbrev pub read_request : List (List ℕ) → List ℕ → Option ScriptLine
 read_request words text = if_so (is_name (word words 3) 16 && is_some (query_of text)) (lines.Read 1 1 (word words 3) text)
 
--- `timeout 1 1`, `save 1 1`, `apply 1 1 N`, and requests
+-- `settle 1`
+abbrev pub settle_line : List (List ℕ) → Option ScriptLine
+settle_line words = if_so (begins words 2 (codes "settle") && says words 1 (codes "1")) (lines.Settle 1)
+
+-- `timeout 1 1`, `save 1 1`, `apply 1 1 N`, `settle 1`, and requests
 abbrev pub later_line : List (List ℕ) → List ℕ → Option ScriptLine
 later_line words line =
     if is_ours words then
@@ -59,16 +66,66 @@ later_line words line =
     else (if says words 0 (codes "ask") then ask_line words (behind_four line)
     else (if says words 0 (codes "read") then read_request words (behind_four line)
     else None)))))
-    else None
+    else settle_line words
 
--- what a line says that stands after so many others, if it is one
-abbrev pub line_at : ℕ → List (List ℕ) → List ℕ → Option ScriptLine
-line_at before words line =
-    if begins words 1 (codes "end") then Some lines.End
-    else (if before == 0 then host_line words
-    else (if before == 1 then group_line words
-    else later_line words line))
+-- the host is declared first, then the group, then come the others
+abbrev pub said_in : Setup → List (List ℕ) → List ℕ → Option ScriptLine
+said_in setups.Nothing words line = host_line words
+said_in setups.Host words line = group_line words
+said_in setups.Group words line = later_line words line
 
--- a line has at most 4,096 bytes
-unfoldable pub read_line : ℕ → List ℕ → Option ScriptLine
-read_line before line = if nat_lt 4096 (length line) then None else line_at before (words_of line) line
+-- `end` may stand anywhere
+abbrev pub line_in : Setup → List (List ℕ) → List ℕ → Option ScriptLine
+line_in setup words line = if begins words 1 (codes "end") then Some lines.End else said_in setup words line
+
+-- an empty line, or one that begins with `#`
+abbrev pub is_skipped : List ℕ → Bool
+is_skipped [] = true
+is_skipped (c ∷ cs) = c == 35
+
+-- what a line says where so much is declared, if it is one: a line has at most 4,096 bytes
+unfoldable pub read_line : Setup → List ℕ → Option ScriptLine
+read_line setup line =
+    if nat_lt 4096 (length line) then None
+    else (if is_skipped line then Some lines.Skipped else line_in setup (words_of line) line)
+
+-- what is declared behind a line
+abbrev pub setup_after : ScriptLine → Setup → Setup
+setup_after lines.Skipped setup = setup
+setup_after lines.End setup = setup
+setup_after (lines.Host host) setup = setups.Host
+setup_after (lines.Group group kind roster limit) setup = setups.Group
+setup_after (lines.Event host event) setup = setup
+setup_after (lines.Ask host group context command) setup = setup
+setup_after (lines.Read host group context query) setup = setup
+setup_after (lines.Settle group) setup = setup
+
+abbrev pub is_end : ScriptLine → Bool
+is_end lines.Skipped = false
+is_end lines.End = true
+is_end (lines.Host host) = false
+is_end (lines.Group group kind roster limit) = false
+is_end (lines.Event host event) = false
+is_end (lines.Ask host group context command) = false
+is_end (lines.Read host group context query) = false
+is_end (lines.Settle group) = false
+
+-- ---- scripts
+
+-- the parts between line feeds, of which the last is no whole line
+abbrev pub parts_of : List ℕ → List (List ℕ)
+parts_of text = slice_split (λ b. b == 10) text
+
+abbrev pub said_well : Option ScriptLine → (ScriptLine → Bool) → Bool
+said_well None more = false
+said_well (Some said) more = is_end said || more said
+
+-- the whole lines up to `end` are lines of the grammar, each where it may stand
+abbrev pub are_lines : Setup → List (List ℕ) → Bool
+are_lines setup [] = false
+are_lines setup (line ∷ []) = false
+are_lines setup (line ∷ next ∷ more) = said_well (read_line setup line) (λ said. are_lines (setup_after said setup) (next ∷ more))
+
+-- a script of the grammar, which comes to its `end`
+abbrev pub is_script : List ℕ → Bool
+is_script text = are_lines setups.Nothing (parts_of text)

@@ -3,15 +3,17 @@
 #![tactic(auto)]
 
 mod laws;
+mod limit;
 mod line;
 mod replica;
 mod script;
 mod told;
 
-pub use laws::worked_run;
+pub use laws::{settled_run, worked_run};
+pub use limit::Limit;
 pub use line::Line;
 pub use replica::{Note, Replica, Role, Taken};
-pub use script::{HostEvent, ScriptLine};
+pub use script::{HostEvent, ScriptLine, Setup};
 pub use told::{Stop, Told, Tolds, Waiting, Want};
 
 #[cfg(test)]

@@ -1,3 +1,4 @@
+use crate::limit::Limit;
 use host_ids::{Entry, Key, Proposal, Text};
 
 /// A line of the output.
@@ -83,8 +84,11 @@ pub enum Line {
         /// The entry.
         entry: Entry,
     },
-    /// The script has as many bytes as may be.
-    LimitScript,
+    /// A limit was reached, and the run stops.
+    Reached {
+        /// The limit.
+        limit: Limit,
+    },
     /// The words of the call are no form of it.
     Usage,
     /// The line of the script with this number, from 1, is none.

@@ -22,9 +22,23 @@ pub enum HostEvent {
     },
 }
 
+/// What a script has declared so far: which lines may stand next hangs on it. Source: this
+/// project's own.
+#[derive(Clone, Copy, Debug, PartialEq, Eq)]
+pub enum Setup {
+    /// Nothing: the host is declared next.
+    Nothing,
+    /// The host: the group is declared next.
+    Host,
+    /// The host and the group.
+    Group,
+}
+
 /// A line of a script. Hosts are 1 to 9, groups 1 to 64. Source: this project's own.
 #[derive(Debug, Drop)]
 pub enum ScriptLine {
+    /// An empty line or a comment, which is counted and does nothing.
+    Skipped,
     /// The last line.
     End,
     /// Declares a host.
@@ -71,5 +85,10 @@ pub enum ScriptLine {
         context: Text,
         /// The query.
         query: Text,
+    },
+    /// Saves, delivers and applies round after round, until there is nothing to do.
+    Settle {
+        /// The group.
+        group: u8,
     },
 }

@@ -1,5 +1,6 @@
 ghost use Rattle.std.specs.Prelude.{◌≡◌, ◌++◌, [], ◌∷◌, OnOk, OnErr};
 
+use crate::limit::Limit;
 use crate::line::Line;
 use host_ids::{Key, NoMemory, Text};
 use std::alloc::Global;
@@ -89,8 +90,11 @@ pub enum Stop {
         /// The line's number, from 1.
         line: u64,
     },
-    /// The lines that were read have as many bytes as may be.
-    Full,
+    /// A limit was reached before a line or an event.
+    Full {
+        /// The limit.
+        limit: Limit,
+    },
     /// There are no more whole lines.
     Spent {
         /// The number of the line that isn't whole, from 1.

@@ -1,5 +1,5 @@
 -- What was written is what the whole input says.
-use Rattle.std.proofs.Common.{◌≡◌, inl, inr, ℕ, List, [], ◌∷◌, ◌++◌, Option, Some, None, refl, sym, ap, ◌∙◌, subst, arith, append_assoc}
+use Rattle.std.proofs.Common.{◌≡◌, ◌⊎◌, inl, inr, ℕ, List, [], ◌∷◌, ◌++◌, Option, Some, None, refl, sym, ap, ◌∙◌, subst, arith, append_assoc}
 use Rattle.std.specs.Prelude.{Result, Ok, Err, OnOk, OnErr, codes}
 use Rattle.std.specs.Io.KnownBytes.{Appends, IsAtEnd}
 use Rattle.std.proofs.lemmas.List.{append-nil}
@@ -12,8 +12,9 @@ use Rattle.run_model.specs.World.{World}
 use Rattle.run_model.specs.Run.{outcome_of, output_of, text_of, ending}
 use Rattle.run_model.specs.Print.{print_line}
 use Rattle.run_law.specs.Lawful.{RunsAreLegal, RunsAreLegalSoFar}
+use Rattle.run_law.specs.Complete.{EndsOrIsFull, ScriptsEnd}
 use Rattle.script_run.specs.Reach.{Reaches, Stopped, IsCut, GivenUp}
-use Rattle.script_run.specs.Top.{HasRun, WritesSome, usage, IsInstead, IsAnswer, IsBroken, status_of, Finished}
+use Rattle.script_run.specs.Top.{HasRun, IsWithinLimits, IsComplete, WritesSome, usage, IsInstead, IsAnswer, IsBroken, status_of, Finished}
 use Rattle.script_run.proofs.Runs.{text_of-append}
 
 -- ---- numbers of statuses
@@ -21,7 +22,7 @@ use Rattle.script_run.proofs.Runs.{text_of-append}
 is_ended : (s : Stop) → status_of s ≡ 0 → s ≡ Ended
 is_ended Ended e = refl
 is_ended (Bad n) e = absurd (omega (arith, e))
-is_ended Full e = absurd (omega (arith, e))
+is_ended (Full l) e = absurd (omega (arith, e))
 is_ended (Spent n) e = absurd (omega (arith, e))
 
 unbroken : (s : Stop) → IsBroken (status_of s) → ⊥
@@ -29,8 +30,8 @@ unbroken Ended (inl e) = omega (arith, e)
 unbroken Ended (inr e) = omega (arith, e)
 unbroken (Bad n) (inl e) = omega (arith, e)
 unbroken (Bad n) (inr e) = omega (arith, e)
-unbroken Full (inl e) = omega (arith, e)
-unbroken Full (inr e) = omega (arith, e)
+unbroken (Full l) (inl e) = omega (arith, e)
+unbroken (Full l) (inr e) = omega (arith, e)
 unbroken (Spent n) (inl e) = omega (arith, e)
 unbroken (Spent n) (inr e) = omega (arith, e)
 
@@ -127,6 +128,25 @@ given_up_runs so_far left_old None old new number n s input e = absurd (rw e at 
 given_up_runs so_far left_old (Some rest) old new number n s input e =
     let all : input ≡ s.script ++ rest = rw e at s.taken.taken in
     rw all (given_up so_far (s.script ++ rest) old new number n (s.front rest))
+
+-- ---- a script of the grammar within the limits
+
+settled_done : (input : List ℕ) (SourceFailed SinkFailed : Type 0) (number : ℕ) → IsInstead number ⊎ (number ≡ status_of (outcome_of input).stop) → (outcome_of input).stop ≡ Ended → (number ≡ 4 → SourceFailed) → (number ≡ 5 → SinkFailed)
+    → ¬ SourceFailed → ¬ SinkFailed → (number ≡ 0) ⊎ (number ≡ 8)
+settled_done input SourceFailed SinkFailed number (inl (inl e)) stop source sink s k = absurd (s (source e))
+settled_done input SourceFailed SinkFailed number (inl (inr (inl e))) stop source sink s k = absurd (k (sink e))
+settled_done input SourceFailed SinkFailed number (inl (inr (inr e))) stop source sink s k = inr e
+settled_done input SourceFailed SinkFailed number (inr e) stop source sink s k = inl (e ∙ ap status_of stop)
+
+done_by : (input : List ℕ) (SourceFailed SinkFailed : Type 0) (number : ℕ) → IsInstead number ⊎ (number ≡ status_of (outcome_of input).stop) → EndsOrIsFull (outcome_of input).stop → IsWithinLimits input → (number ≡ 4 → SourceFailed) → (number ≡ 5 → SinkFailed)
+    → ¬ SourceFailed → ¬ SinkFailed → (number ≡ 0) ⊎ (number ≡ 8)
+done_by input SourceFailed SinkFailed number settled (inl stop) within source sink s k = settled_done input SourceFailed SinkFailed number settled stop source sink s k
+done_by input SourceFailed SinkFailed number settled (inr full) within source sink s k = absurd (within full.0 full.1)
+
+-- with no fault the answer is that of the run, or want of memory
+pub completes : ScriptsEnd → (input : List ℕ) (SourceFailed SinkFailed : Type 0) (old now : Option (List ℕ)) (number : ℕ) → HasRun input old now number → (number ≡ 4 → SourceFailed) → (number ≡ 5 → SinkFailed)
+    → IsComplete input SourceFailed SinkFailed number
+completes ends input SourceFailed SinkFailed old now number h source sink = λ e within s k. done_by input SourceFailed SinkFailed number h.settled (ends input e) within source sink s k
 
 -- ---- the clauses of the top call
 

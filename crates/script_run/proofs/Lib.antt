@@ -1,4 +1,5 @@
 pub mod Rows
+pub mod Settles
 pub mod Insert
 pub mod Parts
 pub mod Runs

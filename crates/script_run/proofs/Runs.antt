@@ -1,16 +1,19 @@
 -- A run that is under way.
-use Rattle.std.proofs.Common.{◌≡◌, ℕ, ◌+◌, ◌<◌, ◌≤◌, List, [], ◌∷◌, ◌++◌, true, false, Option, Some, None, length, refl, sym, ap, ◌∙◌, subst, append_assoc, length-append, arith, le-leb, lt-ltb, le-ltb}
+use Rattle.std.proofs.Common.{◌≡◌, ℕ, ◌+◌, ◌<◌, ◌≤◌, List, [], ◌∷◌, ◌++◌, Bool, true, false, cond, Option, Some, None, length, refl, sym, ap, ◌∙◌, subst, append_assoc, length-append, arith, lt-ltb, le-ltb, leb-false}
+use Rattle.std.specs.Prelude.{nat_le}
 use Rattle.std.specs.Io.KnownBytes.{Consumes, Keeps}
 use Rattle.std.proofs.lemmas.List.{append-nil}
-use Rattle.std.proofs.lemmas.Bool.{lt-leb}
 use Rattle.std.proofs.lemmas.Grind.{flat_map-append}
+use Rattle.run_model.specs.declared.limit.Limit.{Limit}
+use Rattle.run_model.specs.declared.limit.Limit.TheVariants as limits
 use Rattle.run_model.specs.declared.script.ScriptLine.{ScriptLine}
+use Rattle.run_model.specs.declared.script.Setup.{Setup}
 use Rattle.run_model.specs.declared.told.Told.{Told}
 use Rattle.run_model.specs.declared.told.Stop.{Stop}
 use Rattle.run_model.specs.declared.told.Stop.TheVariants.{Ended, Bad, Full, Spent}
 use Rattle.run_model.specs.World.{World}
-use Rattle.run_model.specs.Script.{read_line}
-use Rattle.run_model.specs.Run.{Outcome, run, parts_of, text_of, told_before, stops, step, is_end, most_bytes}
+use Rattle.run_model.specs.Script.{read_line, parts_of, is_end, setup_after}
+use Rattle.run_model.specs.Run.{Outcome, run, text_of, told_before, stops, turn, most_bytes, most_entries, appended_entries, reached}
 use Rattle.script_run.specs.Reach.{Reaches, Ahead, HasNoFeed}
 use Rattle.script_run.proofs.Parts.{has_parts, joined_parts, lone_part}
 
@@ -48,54 +51,84 @@ reaches_on done more rest total w s a r = record {
 
 -- ---- one turn of the run
 
-limit_by : (w : World) (n size : ℕ) (first : List ℕ) (others : List (List ℕ)) → most_bytes ≤ size → run w n size (first ∷ others) ≡ stops w Full
+below_by : {A : Type 0} (entries bytes : Bool) → cond entries (Some limits.Entries) (cond bytes (Some limits.Script) None) ≡ None → (bytes ≡ false → A) → A
+below_by true bytes h f = absurd cc
+below_by false true h f = absurd cc
+below_by false false h f = f refl
+
+limit_by : (setup : Setup) (w : World) (n size : ℕ) (first : List ℕ) (others : List (List ℕ)) (limit : Limit) → reached w size ≡ Some limit → run setup w n size (first ∷ others) ≡ stops w (Full limit)
 unfolding run
-limit_by w n size first [] h = rw (le-leb most_bytes size h) refl
-limit_by w n size first (next ∷ more) h = rw (le-leb most_bytes size h) refl
+limit_by setup w n size first [] limit h = rw h refl
+limit_by setup w n size first (next ∷ more) limit h = rw h refl
 
-pub at_limit : (w : World) (n size : ℕ) (text : List ℕ) → most_bytes ≤ size → run w n size (parts_of text) ≡ stops w Full
-at_limit w n size text h = let p = has_parts text in rw p.are (limit_by w n size p.first p.others h)
+pub at_limit : (setup : Setup) (w : World) (n size : ℕ) (text : List ℕ) (limit : Limit) → reached w size ≡ Some limit → run setup w n size (parts_of text) ≡ stops w (Full limit)
+at_limit setup w n size text limit h = let p = has_parts text in rw p.are (limit_by setup w n size p.first p.others limit h)
 
-pub at_bad : (w : World) (n size : ℕ) (line rest : List ℕ) → size < most_bytes → read_line n line ≡ None → run w n size (line ∷ parts_of rest) ≡ stops w (Bad (n + 1))
+pub at_bad : (setup : Setup) (w : World) (n size : ℕ) (line rest : List ℕ) → reached w size ≡ None → read_line setup line ≡ None → run setup w n size (line ∷ parts_of rest) ≡ stops w (Bad (n + 1))
 unfolding run
-at_bad w n size line rest h e = let p = has_parts rest in rw (p.are, lt-leb most_bytes size h, e) refl
+at_bad setup w n size line rest h e = let p = has_parts rest in rw (p.are, h, e) refl
 
-pub at_end : (w : World) (n size : ℕ) (line rest : List ℕ) (said : ScriptLine) → size < most_bytes → read_line n line ≡ Some said → is_end said ≡ true
-    → run w n size (line ∷ parts_of rest) ≡ stops w Ended
+pub at_end : (setup : Setup) (w : World) (n size : ℕ) (line rest : List ℕ) (said : ScriptLine) → reached w size ≡ None → read_line setup line ≡ Some said → is_end said ≡ true
+    → run setup w n size (line ∷ parts_of rest) ≡ stops w Ended
 unfolding run
-at_end w n size line rest said h e t = let p = has_parts rest in rw (p.are, lt-leb most_bytes size h, e, t) refl
+at_end setup w n size line rest said h e t = let p = has_parts rest in rw (p.are, h, e, t) refl
 
-at_line : (w : World) (n size : ℕ) (line rest : List ℕ) (said : ScriptLine) → size < most_bytes → read_line n line ≡ Some said → is_end said ≡ false
-    → run w n size (line ∷ parts_of rest) ≡ told_before (step said w).told (run (step said w).world (n + 1) (size + (length line + 1)) (parts_of rest))
+-- the run behind a line that is none of these
+abbrev pub run_behind : Setup → World → ℕ → ℕ → List ℕ → List ℕ → ScriptLine → Outcome
+run_behind setup w n size line rest said = run (setup_after said setup) (turn said (size + (length line + 1)) w).world (n + 1) (size + (length line + 1)) (parts_of rest)
+
+at_line : (setup : Setup) (w : World) (n size : ℕ) (line rest : List ℕ) (said : ScriptLine) → reached w size ≡ None → read_line setup line ≡ Some said → is_end said ≡ false → (turn said (size + (length line + 1)) w).full ≡ None
+    → run setup w n size (line ∷ parts_of rest) ≡ told_before (turn said (size + (length line + 1)) w).told (run_behind setup w n size line rest said)
 unfolding run
-at_line w n size line rest said h e t = let p = has_parts rest in rw (p.are, lt-leb most_bytes size h, e, t) refl
+at_line setup w n size line rest said h e t f = let p = has_parts rest in rw (p.are, h, e, t, f) refl
 
-pub at_last : (w : World) (n size : ℕ) (text : List ℕ) → size < most_bytes → HasNoFeed text → length text ≤ 4096 → run w n size (parts_of text) ≡ stops w (Spent (n + 1))
+at_full : (setup : Setup) (w : World) (n size : ℕ) (line rest : List ℕ) (said : ScriptLine) (limit : Limit) → reached w size ≡ None → read_line setup line ≡ Some said → is_end said ≡ false → (turn said (size + (length line + 1)) w).full ≡ Some limit
+    → run setup w n size (line ∷ parts_of rest) ≡ told_before (turn said (size + (length line + 1)) w).told (stops (turn said (size + (length line + 1)) w).world (Full limit))
 unfolding run
-at_last w n size text h f s = rw (lone_part text f, lt-leb most_bytes size h, le-ltb 4096 (length text) s) refl
+at_full setup w n size line rest said limit h e t f = let p = has_parts rest in rw (p.are, h, e, t, f) refl
 
-too_long : (n : ℕ) (line : List ℕ) → 4096 < length line → read_line n line ≡ None
+pub at_last : (setup : Setup) (w : World) (n size : ℕ) (text : List ℕ) → reached w size ≡ None → HasNoFeed text → length text ≤ 4096 → run setup w n size (parts_of text) ≡ stops w (Spent (n + 1))
+unfolding run
+at_last setup w n size text h f s = rw (lone_part text f, h, le-ltb 4096 (length text) s) refl
+
+too_long : (setup : Setup) (line : List ℕ) → 4096 < length line → read_line setup line ≡ None
 unfolding read_line
-too_long n line h = rw (lt-ltb 4096 (length line) h) refl
+too_long setup line h = rw (lt-ltb 4096 (length line) h) refl
 
-long_by : (w : World) (n size : ℕ) (line : List ℕ) (others : List (List ℕ)) → size < most_bytes → 4096 < length line → run w n size (line ∷ others) ≡ stops w (Bad (n + 1))
+long_by : (setup : Setup) (w : World) (n size : ℕ) (line : List ℕ) (others : List (List ℕ)) → reached w size ≡ None → 4096 < length line → run setup w n size (line ∷ others) ≡ stops w (Bad (n + 1))
 unfolding run
-long_by w n size line [] h l = rw (lt-leb most_bytes size h, lt-ltb 4096 (length line) l) refl
-long_by w n size line (next ∷ more) h l = rw (lt-leb most_bytes size h, too_long n line l) refl
+long_by setup w n size line [] h l = rw (h, lt-ltb 4096 (length line) l) refl
+long_by setup w n size line (next ∷ more) h l = rw (h, too_long setup line l) refl
 
 -- a part that is too long for a line is a bad one, whatever comes
-pub at_long : (w : World) (n size : ℕ) (text more : List ℕ) → size < most_bytes → HasNoFeed text → 4096 < length text → run w n size (parts_of (text ++ more)) ≡ stops w (Bad (n + 1))
-at_long w n size text more h f l =
+pub at_long : (setup : Setup) (w : World) (n size : ℕ) (text more : List ℕ) → reached w size ≡ None → HasNoFeed text → 4096 < length text → run setup w n size (parts_of (text ++ more)) ≡ stops w (Bad (n + 1))
+at_long setup w n size text more h f l =
     let p = has_parts more in
-    rw (joined_parts text more p.first p.others f p.are) (long_by w n size (text ++ p.first) p.others h (rw length-append (omega (arith, l))))
+    rw (joined_parts text more p.first p.others f p.are) (long_by setup w n size (text ++ p.first) p.others h (rw length-append (omega (arith, l))))
 
 -- one line more is run
-pub next_ahead : (done : List ℕ) (w after : World) (n size : ℕ) (text line rest : List ℕ) (said : ScriptLine) (total : Outcome) → Ahead done (run w n size (parts_of text)) total → parts_of text ≡ line ∷ parts_of rest
-    → size < most_bytes → read_line n line ≡ Some said → is_end said ≡ false → after ≡ (step said w).world
-    → Ahead (done ++ text_of (step said w).told) (run after (n + 1) (size + (length line + 1)) (parts_of rest)) total
-next_ahead done w after n size text line rest said total a p h e t q =
-    let turn = ap (run w n size) p ∙ at_line w n size line rest said h e t in
-    rw q (further done (text_of (step said w).told) _ _ total (subst (λ (o : Outcome). Ahead done o total) turn a) (told_ahead (step said w).told _))
+pub next_ahead : (done : List ℕ) (setup : Setup) (w : World) (n size : ℕ) (text line rest : List ℕ) (said : ScriptLine) (total : Outcome) → Ahead done (run setup w n size (parts_of text)) total → parts_of text ≡ line ∷ parts_of rest
+    → reached w size ≡ None → read_line setup line ≡ Some said → is_end said ≡ false → (turn said (size + (length line + 1)) w).full ≡ None
+    → Ahead (done ++ text_of (turn said (size + (length line + 1)) w).told) (run_behind setup w n size line rest said) total
+next_ahead done setup w n size text line rest said total a p h e t f =
+    let told = (turn said (size + (length line + 1)) w).told in
+    let next = ap (run setup w n size) p ∙ at_line setup w n size line rest said h e t f in
+    further done (text_of told) _ _ total (subst (λ (o : Outcome). Ahead done o total) next a) (told_ahead told _)
+
+-- a limit is reached in a line
+pub full_reached : (done : List ℕ) (setup : Setup) (w : World) (n size : ℕ) (text line rest : List ℕ) (said : ScriptLine) (limit : Limit) (total : Outcome) → Ahead done (run setup w n size (parts_of text)) total → parts_of text ≡ line ∷ parts_of rest
+    → reached w size ≡ None → read_line setup line ≡ Some said → is_end said ≡ false → (turn said (size + (length line + 1)) w).full ≡ Some limit
+    → Reaches (done ++ text_of (turn said (size + (length line + 1)) w).told) total (Full limit) (turn said (size + (length line + 1)) w).world
+full_reached done setup w n size text line rest said limit total a p h e t f =
+    let said_turn = turn said (size + (length line + 1)) w in
+    let next = ap (run setup w n size) p ∙ at_full setup w n size line rest said limit h e t f in
+    reaches_on done (text_of said_turn.told) _ total said_turn.world (Full limit) (subst (λ (o : Outcome). Ahead done o total) next a)
+    (record { stop_is = refl; world_is = refl; told = ap text_of (sym (append-nil said_turn.told)) })
+
+-- where no limit is reached, the lines have fewer bytes than may be
+pub reached_below : (w : World) (size : ℕ) → reached w size ≡ None → size < most_bytes
+unfolding reached
+reached_below w size h = below_by (nat_le most_entries (appended_entries w)) (nat_le most_bytes size) h (leb-false most_bytes size)
 
 -- ---- what a source gives
 

@@ -1,20 +1,39 @@
 -- A run over a source that is under way: what was taken, what is held of it, and what was told.
-use Rattle.std.proofs.Common.{◌≡◌, ℕ, ◌+◌, ◌<◌, ◌≤◌, List, [], ◌++◌, Option, length, refl, sym, ap, ◌∙◌, append_assoc, length-append, arith}
+use Rattle.std.proofs.Common.{◌≡◌, ℕ, ◌+◌, ◌<◌, ◌≤◌, List, [], ◌++◌, Option, None, Some, length, refl, sym, ap, ◌∙◌, append_assoc, length-append, arith}
 use Rattle.std.specs.Io.KnownBytes.{Appends, Consumes, Keeps}
 use Rattle.std.proofs.lemmas.List.{append-nil}
 use Rattle.fault_io.specs.Faults.{WritesFront}
 use Rattle.fault_io.proofs.Known.{Appends-append, Appends-none}
 use Rattle.run_model.specs.declared.told.Stop.{Stop}
-use Rattle.run_model.specs.World.{World}
-use Rattle.run_model.specs.Run.{Outcome, outcome_of, text_of, most_bytes}
+use Rattle.run_model.specs.declared.script.Setup.TheVariants as setups
+use Rattle.run_model.specs.World.{World, start}
+use Rattle.run_model.specs.Run.{Outcome, outcome_of, text_of, reached}
 use Rattle.script_run.specs.Reach.{Ahead, HasNoFeed, Place, run_on, Leaves, StopsAt, Stopped, IsCut, GivenUp}
-use Rattle.script_run.proofs.Runs.{further, ends, at_last, reaches_on, Consumes-append, Consumes-kept}
+use Rattle.script_run.proofs.Runs.{no_way, further, ends, at_last, reached_below, reaches_on, Consumes-append, Consumes-kept}
 
 pub record Under (left_old left old now : Option (List ℕ)) (p : Place) (held script done : List ℕ) : Type 0 where
   pub taken : Consumes left_old left script
   pub written : Appends old now done
   pub ahead : (more : List ℕ) → Ahead done (run_on p (held ++ more)) (outcome_of (script ++ more))
   pub sizes : p.size + length held ≡ length script
+
+Consumes-none : (left : Option (List ℕ)) → Consumes left left []
+Consumes-none None = tt
+Consumes-none (Some m) = refl
+
+-- nothing was taken, told or held yet
+pub begins : (left old : Option (List ℕ)) (p : Place) (held : List ℕ) → p.world ≡ start → p.setup ≡ setups.Nothing → p.lines ≡ 0 → p.size ≡ 0 → held ≡ [] → Under left left old old p held [] []
+begins left old p held w u n z h = record {
+  taken = Consumes-none left;
+  written = Appends-none old;
+  ahead = λ more. rw (w, u, n, z, h) (no_way (outcome_of more));
+  sizes = rw (z, h) refl;
+}
+
+-- a run begins within its limits
+pub begins_within : (w : World) (size : ℕ) → w ≡ start → size ≡ 0 → reached w size ≡ None
+unfolding reached
+begins_within w size e z = rw (e, z) refl
 
 -- bytes more were taken
 pub took : (left_old left left_new old now : Option (List ℕ)) (p : Place) (held script done bytes : List ℕ) → Under left_old left old now p held script done → Consumes left left_new bytes
@@ -76,12 +95,12 @@ stopped_here left_old left old now p held script done told stop world u h s = re
   reached = λ more. reaches_on done told (run_on p (held ++ more)) (outcome_of (script ++ more)) world stop (u.ahead more) (s more);
 }
 
-pub cut_here : (left_old left old now : Option (List ℕ)) (p : Place) (held script done : List ℕ) → Under left_old left old now p held script done → HasNoFeed held → length held ≤ 4096 → p.size < most_bytes
+pub cut_here : (left_old left old now : Option (List ℕ)) (p : Place) (held script done : List ℕ) → Under left_old left old now p held script done → HasNoFeed held → length held ≤ 4096 → reached p.world p.size ≡ None
     → IsCut left_old left old now (p.lines + 1) p.world
 cut_here left_old left old now p held script done u f s b = record {
   script = script;
-  taken = record { taken = u.taken; few = omega (arith, u.sizes, s, b) };
+  taken = record { taken = u.taken; few = omega (arith, u.sizes, s, reached_below p.world p.size b) };
   done = done;
   written = u.written;
-  reached = ends done (run_on p held) (outcome_of script) p.world _ (rw (append-nil held, append-nil script) at (u.ahead [])) (at_last p.world p.lines p.size held b f s);
+  reached = ends done (run_on p held) (outcome_of script) p.world _ (rw (append-nil held, append-nil script) at (u.ahead [])) (at_last p.setup p.world p.lines p.size held b f s);
 }

@@ -1,12 +1,14 @@
 -- What a run has come to, whatever comes next.
-use Rattle.std.specs.Prelude.{◌≡◌, ◌≤◌, ◌<◌, ◌+◌, ◌++◌, ◌==◌, ℕ, List, Option, false, length}
+use Rattle.std.specs.Prelude.{◌≡◌, ◌≤◌, ◌<◌, ◌+◌, ◌++◌, ◌==◌, ℕ, List, Option, None, false, length}
 use Rattle.std.specs.List.{AllByRecursion}
 use Rattle.std.specs.Io.KnownBytes.{Appends, Consumes}
 use Rattle.fault_io.specs.Faults.{WritesFront}
+use Rattle.run_model.specs.declared.script.Setup.{Setup}
 use Rattle.run_model.specs.declared.told.Stop.{Stop}
 use Rattle.run_model.specs.declared.told.Stop.TheVariants.{Spent}
 use Rattle.run_model.specs.World.{World}
-use Rattle.run_model.specs.Run.{Outcome, run, parts_of, outcome_of, text_of, most_bytes}
+use Rattle.run_model.specs.Script.{parts_of}
+use Rattle.run_model.specs.Run.{Outcome, run, outcome_of, text_of, most_bytes, reached}
 
 -- the stop and the world of this outcome, and these are its lines
 pub record Reaches (done : List ℕ) (total : Outcome) (stop : Stop) (world : World) : Type 0 where
@@ -23,14 +25,15 @@ pub record Ahead (done : List ℕ) (rest total : Outcome) : Type 0 where
 abbrev pub HasNoFeed : List ℕ → Type 0
 HasNoFeed text = AllByRecursion (λ b. (b == 10) ≡ false) text
 
--- where a run stands: its world, its lines, and their bytes
+-- where a run stands: what is declared, its world, its lines, and their bytes
 pub record Place : Type 0 where
+  pub setup : Setup
   pub world : World
   pub lines : ℕ
   pub size : ℕ
 
 abbrev pub run_on : Place → List ℕ → Outcome
-run_on p text = run p.world p.lines p.size (parts_of text)
+run_on p text = run p.setup p.world p.lines p.size (parts_of text)
 
 -- the whole lines of a text are run, and what is left is less than a line, which may go on
 pub record Leaves (done : List ℕ) (before : Place) (text : List ℕ) (after : Place) (rest : List ℕ) : Type 0 where
@@ -38,6 +41,7 @@ pub record Leaves (done : List ℕ) (before : Place) (text : List ℕ) (after : 
   pub open_end : HasNoFeed rest
   pub short : length rest ≤ 4096
   pub below : after.size < most_bytes
+  pub within : reached after.world after.size ≡ None
   pub sizes : after.size + length rest ≡ before.size + length text
   pub counts : after.lines ≤ after.size
 

@@ -1,11 +1,13 @@
 -- What the calls of a run promise.
-use Rattle.std.specs.Prelude.{◌≡◌, ◌<◌, ◌++◌, ℕ, List, [], ◌∷◌, ◌==◌, ◌&&◌, Bool, Option, codes, bytes_eq, length, slice_index_or, ◌⊎◌}
+use Rattle.std.specs.Prelude.{◌≡◌, ◌≢◌, ◌<◌, ◌++◌, ℕ, List, [], ◌∷◌, ◌==◌, ◌&&◌, Bool, true, Option, codes, bytes_eq, length, slice_index_or, ◌⊎◌}
 use Rattle.std.specs.Io.KnownBytes.{Consumes, Appends}
 use Rattle.fault_io.specs.Faults.{WritesFront}
+use Rattle.run_model.specs.declared.limit.Limit.{Limit}
 use Rattle.run_model.specs.declared.told.Stop.{Stop}
 use Rattle.run_model.specs.declared.told.Stop.TheVariants.{Ended, Bad, Full, Spent}
 use Rattle.run_model.specs.declared.line.Line.TheVariants as lines
 use Rattle.run_model.specs.World.{World}
+use Rattle.run_model.specs.Script.{is_script}
 use Rattle.run_model.specs.Run.{bare, outcome_of, output_of, text_of, ending}
 use Rattle.run_law.specs.Lawful.{IsLegalAtEnd, IsLegalSoFar}
 use Rattle.script_run.specs.declared.lines.Runner.{Runner}
@@ -17,7 +19,7 @@ use Rattle.script_run.specs.World.{world_of}
 use Rattle.script_run.specs.Reach.{Place, Leaves, StopsAt, Stopped, IsCut}
 
 abbrev pub place_of : Runner → Place
-place_of r = record { world = world_of r.host; lines = r.lines; size = r.size }
+place_of r = record { setup = r.setup; world = world_of r.host; lines = r.lines; size = r.size }
 
 -- a text was run up to a stop, or up to less than a line, and its lines were printed
 abbrev pub HasGone : List ℕ → List ℕ → Place → List ℕ → Progress → Place → Type 0
@@ -37,7 +39,7 @@ is_run words = (length words == 1) && bytes_eq (slice_index_or words 0 []) (code
 abbrev pub status_of : Stop → ℕ
 status_of Ended = 0
 status_of (Bad line) = 3
-status_of Full = 7
+status_of (Full limit) = 7
 status_of (Spent line) = 3
 
 -- the run over this text stops with this status
@@ -48,7 +50,7 @@ StopsWith text status = status_of (outcome_of text).stop ≡ status
 abbrev pub IsSpent : Stop → Type 0
 IsSpent Ended = ⊥
 IsSpent (Bad line) = ⊥
-IsSpent Full = ⊥
+IsSpent (Full limit) = ⊥
 IsSpent (Spent line) = Unit {0}
 
 -- the run came to a stop of its own, and the answer says which
@@ -66,6 +68,14 @@ IsInstead number = (number ≡ 4) ⊎ ((number ≡ 5) ⊎ (number ≡ 8))
 -- the answer is this one exactly where a fact holds, but for a usage, a fault or want of memory
 abbrev pub IsExactly : Type 0 → ℕ → ℕ → Type 0
 IsExactly P status number = (number ≡ status → P) × (P → (number ≡ status) ⊎ ((number ≡ 2) ⊎ IsInstead number))
+
+-- the run over this input reaches no limit
+abbrev pub IsWithinLimits : List ℕ → Type 0
+IsWithinLimits input = (limit : Limit) → (outcome_of input).stop ≢ Full limit
+
+-- a script of the grammar within the limits gives 0 or want of memory, where neither the source nor the sink fails
+abbrev pub IsComplete : List ℕ → Type 0 → Type 0 → ℕ → Type 0
+IsComplete input SourceFailed SinkFailed number = is_script input ≡ true → IsWithinLimits input → ¬ SourceFailed → ¬ SinkFailed → (number ≡ 0) ⊎ (number ≡ 8)
 
 -- some bytes were taken, fewer than so many
 abbrev pub Takes : Option (List ℕ) → Option (List ℕ) → ℕ → Type 0

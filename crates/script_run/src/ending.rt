@@ -54,6 +54,6 @@ pub fn print_ending(
             print_bare(alloc, Line::End, out)
         }
         Stop::Bad { line } | Stop::Spent { line } => print_bare(alloc, Line::BadLine { line }, out),
-        Stop::Full => print_bare(alloc, Line::LimitScript, out),
+        Stop::Full { limit } => print_bare(alloc, Line::Reached { limit }, out),
     }
 }

@@ -2,11 +2,11 @@ ghost use Rattle.std.specs.Prelude.{◌≡◌, ◌≤◌, IfOk, IfSome};
 ghost use Rattle.std.specs.Option.{option_copied};
 ghost use Rattle.object_model.specs.Words.{word, is_name, number_of};
 ghost use Rattle.object_model.specs.Command.{command_of, query_of};
-ghost use Rattle.run_model.specs.Script.{apply_by, ask_line, behind_four, behind_space, group_line, host_line, is_ours, later_line, line_at, read_line, read_request};
+ghost use Rattle.run_model.specs.Script.{apply_by, ask_line, behind_four, behind_space, group_line, host_line, is_ours, is_skipped, later_line, line_in, read_line, read_request, said_in, settle_line, setup_after};
 
 use host_ids::{Kind, NoMemory, Text};
 use object_model::{Words, command_of, is_name, number_of, query_of};
-use run_model::{HostEvent, ScriptLine};
+use run_model::{HostEvent, ScriptLine, Setup};
 use std::alloc::Global;
 
 fn is_ours(words: &Words<'_>) -> bool
@@ -114,11 +114,20 @@ fn read_request(
     }))
 }
 
+fn settle_line(words: &Words<'_>) -> Option<ScriptLine>
+    ensures { result ≡ settle_line words.now }
+{
+    if !(words.begins(2, b"settle") && words.is(1, b"1")) {
+        return None;
+    }
+    Some(ScriptLine::Settle { group: 1 })
+}
+
 fn later_line(alloc: Global, words: &Words<'_>, line: &[u8]) -> Result<Option<ScriptLine>, NoMemory>
     ensures { IfOk result (λ said. said ≡ later_line words.now line.now) }
 {
     if !is_ours(words) {
-        return Ok(None);
+        return Ok(settle_line(words));
     }
     if words.begins(3, b"timeout") {
         return Ok(Some(ScriptLine::Event {
@@ -144,32 +153,72 @@ fn later_line(alloc: Global, words: &Words<'_>, line: &[u8]) -> Result<Option<Sc
     Ok(None)
 }
 
-fn line_at(
+fn said_in(
     alloc: Global,
-    before: u64,
+    setup: Setup,
     words: &Words<'_>,
     line: &[u8],
 ) -> Result<Option<ScriptLine>, NoMemory>
-    ensures { IfOk result (λ said. said ≡ line_at before words.now line.now) }
+    ensures { IfOk result (λ said. said ≡ said_in setup words.now line.now) }
+{
+    match setup {
+        Setup::Nothing => Ok(host_line(words)),
+        Setup::Host => group_line(alloc, words),
+        Setup::Group => later_line(alloc, words, line),
+    }
+}
+
+fn line_in(
+    alloc: Global,
+    setup: Setup,
+    words: &Words<'_>,
+    line: &[u8],
+) -> Result<Option<ScriptLine>, NoMemory>
+    ensures { IfOk result (λ said. said ≡ line_in setup words.now line.now) }
 {
     if words.begins(1, b"end") {
         return Ok(Some(ScriptLine::End));
     }
-    match before {
-        0 => Ok(host_line(words)),
-        1 => group_line(alloc, words),
-        _ => later_line(alloc, words, line),
+    said_in(alloc, setup, words, line)
+}
+
+/// Whether a line is empty or a comment.
+fn is_skipped(line: &[u8]) -> bool
+    ensures { result ≡ is_skipped line.now }
+{
+    match line {
+        [] => true,
+        [first, ..] => *first == b'#',
     }
 }
 
-/// What a line says that stands after so many others, if it is one.
+/// What a line says where so much is declared, if it is one.
 #[tactic(auto, unfolding(run_model::specs::Script::read_line))]
-pub fn read_line(alloc: Global, before: u64, line: &[u8]) -> Result<Option<ScriptLine>, NoMemory>
-    ensures { IfOk result (λ said. said ≡ read_line before line.now) }
+pub fn read_line(alloc: Global, setup: Setup, line: &[u8]) -> Result<Option<ScriptLine>, NoMemory>
+    ensures { IfOk result (λ said. said ≡ read_line setup line.now) }
 {
     if line.len() > 4096 {
         return Ok(None);
     }
+    if is_skipped(line) {
+        return Ok(Some(ScriptLine::Skipped));
+    }
     let words = Words::of(alloc, line)?;
-    line_at(alloc, before, &words, line)
+    line_in(alloc, setup, &words, line)
+}
+
+/// What is declared behind a line.
+pub fn setup_after(line: &ScriptLine, setup: Setup) -> Setup
+    ensures { result ≡ setup_after line.now setup }
+{
+    match line {
+        ScriptLine::Host { .. } => Setup::Host,
+        ScriptLine::Group { .. } => Setup::Group,
+        ScriptLine::Skipped
+        | ScriptLine::End
+        | ScriptLine::Event { .. }
+        | ScriptLine::Ask { .. }
+        | ScriptLine::Read { .. }
+        | ScriptLine::Settle { .. } => setup,
+    }
 }

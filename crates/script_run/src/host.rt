@@ -1,16 +1,25 @@
 ghost use Rattle.std.specs.Prelude.{◌≡◌, ◌++◌, ◌+◌, ◌<◌, ◌≤◌, take, drop, ◌^◌, [], ◌∷◌, OnOk, IfOk, length};
 ghost use Rattle.run_model.specs.World.{start};
 ghost use Rattle.run_model.specs.Replica.{on_local_proposal};
-ghost use Rattle.run_model.specs.Run.{apply, ask, context_at, decided_entries, dropped, event_step, is_used, next_entries, next_key, note_told, proposes, read_taken, reads, save, step, timeout};
+ghost use Rattle.run_model.specs.Run.{apply, apply_tried, ask, context_at, decided_entries, dropped, event_step, is_busy, is_ripe, is_used, next_entries, next_key, note_told, proposes, reached, read_taken, reads, round, save, save_tried, settle, timeout, turn};
 
 use crate::cell::{Cell, answer_all, answer_line, apply_all, tell};
 use crate::contexts::Contexts;
-use crate::replica::{ME, Saving, fresh, propose, read_at, ripe, save, time_out};
+use crate::replica::{ME, Saving, fresh, is_unsaved, last, propose, read_at, ripe, save, time_out};
 use crate::requests::Requests;
 use host_ids::{Entry, Key, NoMemory, Proposal, Text};
 use kv_object::Kv;
-use run_model::{HostEvent, Line, Replica, ScriptLine, Told, Tolds, Want};
+use run_model::{HostEvent, Limit, Line, Replica, ScriptLine, Told, Tolds, Want};
 use std::alloc::Global;
+
+/// A run stops where leaders have appended so many entries.
+const MOST_ENTRIES: u64 = 200_000;
+
+/// A run stops where the lines that were read have so many bytes.
+const MOST_BYTES: usize = 67_108_864;
+
+/// A settle has at most so many rounds.
+const MOST_ROUNDS: u32 = 64;
 
 /// The one host of a run, with its replica, its cell and its requests.
 #[derive(Drop)]
@@ -241,22 +250,135 @@ impl Host {
         }
     }
 
-    /// Does what a line of the script says, and tells its lines.
-    #[tactic(auto, unfolding(run_model::specs::Run::step))]
-    pub fn step(&mut self, line: ScriptLine, out: &mut Tolds) -> Result<(), NoMemory>
-        ensures world { OnOk result (world_of self.new ≡ (step line (world_of self.old)).world) }
-        ensures told { OnOk result (out.new ≡ out.old ++ (step line (world_of self.old)).told) }
+    /// The first limit that is reached, where the lines that were read have so many bytes.
+    #[tactic(auto, unfolding(run_model::specs::Run::reached))]
+    pub fn reached(&self, size: usize) -> Option<Limit>
+        ensures { result ≡ reached (world_of self.now) size }
+    {
+        if last(&self.replica) >= MOST_ENTRIES {
+            return Some(Limit::Entries);
+        }
+        if size >= MOST_BYTES {
+            return Some(Limit::Script);
+        }
+        None
+    }
+
+    fn is_ripe(&self) -> bool
+        ensures { result ≡ is_ripe (world_of self.now) }
+    {
+        self.cell.applied < ripe(&self.replica)
+    }
+
+    fn is_busy(&self) -> bool
+        ensures { result ≡ is_busy (world_of self.now) }
+    {
+        is_unsaved(&self.replica) || self.is_ripe()
+    }
+
+    /// Saves where something is unsaved. Answers the limit that was reached before.
+    fn save_tried(&mut self, size: usize, out: &mut Tolds) -> Result<Option<Limit>, NoMemory>
+        ensures world { OnOk result (world_of self.new ≡ (save_tried size (world_of self.old)).world) }
+        ensures told { OnOk result (out.new ≡ out.old ++ (save_tried size (world_of self.old)).told) }
+        ensures full { IfOk result (λ full. full ≡ (save_tried size (world_of self.old)).full) }
+    {
+        if !is_unsaved(&self.replica) {
+            return Ok(None);
+        }
+        match self.reached(size) {
+            Some(limit) => Ok(Some(limit)),
+            None => {
+                self.save(out)?;
+                Ok(None)
+            }
+        }
+    }
+
+    /// Applies where an entry is ripe. Answers the limit that was reached before.
+    fn apply_tried(&mut self, size: usize, out: &mut Tolds) -> Result<Option<Limit>, NoMemory>
+        ensures world { OnOk result (world_of self.new ≡ (apply_tried size (world_of self.old)).world) }
+        ensures told { OnOk result (out.new ≡ out.old ++ (apply_tried size (world_of self.old)).told) }
+        ensures full { IfOk result (λ full. full ≡ (apply_tried size (world_of self.old)).full) }
+    {
+        if !self.is_ripe() {
+            return Ok(None);
+        }
+        match self.reached(size) {
+            Some(limit) => Ok(Some(limit)),
+            None => {
+                self.apply(200_000, out)?;
+                Ok(None)
+            }
+        }
+    }
+
+    /// A round of a settle. Answers the limit that was reached in it.
+    fn round(&mut self, size: usize, out: &mut Tolds) -> Result<Option<Limit>, NoMemory>
+        ensures world { OnOk result (world_of self.new ≡ (round size (world_of self.old)).world) }
+        ensures told { OnOk result (out.new ≡ out.old ++ (round size (world_of self.old)).told) }
+        ensures full { IfOk result (λ full. full ≡ (round size (world_of self.old)).full) }
+    {
+        match self.save_tried(size, out)? {
+            Some(limit) => Ok(Some(limit)),
+            None => self.apply_tried(size, out),
+        }
+    }
+
+    /// Rounds until one has nothing to do. Answers the limit that was reached in them.
+    fn settle(&mut self, size: usize, out: &mut Tolds) -> Result<Option<Limit>, NoMemory>
+        ensures world { OnOk result (world_of self.new ≡ (settle 64 size (world_of self.old)).world) }
+        ensures told { OnOk result (out.new ≡ out.old ++ (settle 64 size (world_of self.old)).told) }
+        ensures full { IfOk result (λ full. full ≡ (settle 64 size (world_of self.old)).full) }
+    {
+        let mut left = MOST_ROUNDS;
+        'rounds: while left > 0 {
+            if !self.is_busy() {
+                return Ok(None);
+            }
+            if let Some(limit) = self.round(size, out)? {
+                return Ok(Some(limit));
+            }
+            left -= 1;
+        }
+        Ok(None)
+    }
+
+    /// Does what a line of the script says, where the lines that were read have so many bytes with
+    /// it, and tells its lines. Answers the limit that was reached before one of its events.
+    #[tactic(auto, unfolding(run_model::specs::Run::turn))]
+    pub fn turn(
+        &mut self,
+        line: ScriptLine,
+        size: usize,
+        out: &mut Tolds,
+    ) -> Result<Option<Limit>, NoMemory>
+        ensures world { OnOk result (world_of self.new ≡ (turn line size (world_of self.old)).world) }
+        ensures told { OnOk result (out.new ≡ out.old ++ (turn line size (world_of self.old)).told) }
+        ensures full { IfOk result (λ full. full ≡ (turn line size (world_of self.old)).full) }
     {
         match line {
-            ScriptLine::End | ScriptLine::Group { .. } => Ok(()),
-            ScriptLine::Host { host } => tell(self.alloc, Line::Started { host, start: 1 }, out),
-            ScriptLine::Event { event, .. } => self.event(event, out),
+            ScriptLine::Skipped | ScriptLine::End | ScriptLine::Group { .. } => Ok(None),
+            ScriptLine::Host { host } => {
+                tell(self.alloc, Line::Started { host, start: 1 }, out)?;
+                Ok(None)
+            }
+            ScriptLine::Event { event, .. } => {
+                self.event(event, out)?;
+                Ok(None)
+            }
             ScriptLine::Ask {
                 context,
                 command,
                 ..
-            } => self.ask(context, command, out),
-            ScriptLine::Read { context, query, .. } => self.reads(context, query, out),
+            } => {
+                self.ask(context, command, out)?;
+                Ok(None)
+            }
+            ScriptLine::Read { context, query, .. } => {
+                self.reads(context, query, out)?;
+                Ok(None)
+            }
+            ScriptLine::Settle { .. } => self.settle(size, out),
         }
     }
 }

@@ -1,24 +1,24 @@
 ghost use Rattle.std.specs.Prelude.{◌≡◌, ◌++◌, ◌<◌, ◌≤◌, ◌^◌, IfOk, OnOk, length, List, ℕ};
-ghost use Rattle.run_model.specs.Run.{is_end, most_bytes, step, text_of};
+ghost use Rattle.run_model.specs.Run.{reached, most_bytes, text_of, turn};
+ghost use Rattle.run_model.specs.Script.{is_end};
 ghost use Rattle.script_run.specs.World.{world_of};
 ghost use Rattle.script_run.specs.Top.{HasGone, place_of};
 
 use crate::buffer::Buffer;
 use crate::cut::first_line;
-use crate::grammar::read_line;
+use crate::grammar::{read_line, setup_after};
 use crate::host::Host;
 use crate::print::print_line;
 use host_ids::NoMemory;
-use run_model::{ScriptLine, Stop, Told, Tolds};
+use run_model::{Limit, ScriptLine, Setup, Stop, Told, Tolds};
 use std::alloc::Global;
 
-/// The lines that were read have at most so many bytes before one more is tried.
-const MOST_BYTES: usize = 67_108_864;
-
-/// A run that is under way: the host, and how many lines of how many bytes were run.
+/// A run that is under way: the host, what the script has declared, and how many lines of how many
+/// bytes were run.
 #[derive(Drop)]
 pub struct Runner {
     pub host: Host,
+    pub setup: Setup,
     pub lines: u64,
     pub size: usize,
 }
@@ -46,19 +46,22 @@ pub fn print_all(told: &[Told], out: &mut Buffer) -> Result<(), NoMemory>
     Ok(())
 }
 
-/// Does what a line says, and prints its lines.
+/// Does what a line says, and prints its lines. Answers the limit that was reached in it.
 fn run_line(
     alloc: Global,
     line: ScriptLine,
+    size: usize,
     host: &mut Host,
     out: &mut Buffer,
-) -> Result<(), NoMemory>
-    ensures world { OnOk result (world_of host.new ≡ (step line (world_of host.old)).world) }
-    ensures told { OnOk result (out.new ≡ out.old ++ text_of (step line (world_of host.old)).told) }
+) -> Result<Option<Limit>, NoMemory>
+    ensures world { OnOk result (world_of host.new ≡ (turn line size (world_of host.old)).world) }
+    ensures told { OnOk result (out.new ≡ out.old ++ text_of (turn line size (world_of host.old)).told) }
+    ensures full { IfOk result (λ full. full ≡ (turn line size (world_of host.old)).full) }
 {
     let mut told = Tolds::new(alloc);
-    host.step(line, &mut told)?;
-    print_all(told.items(), out)
+    let full = host.turn(line, size, &mut told)?;
+    print_all(told.items(), out)?;
+    Ok(full)
 }
 
 /// Runs the whole lines of a text, and prints what each tells.
@@ -75,10 +78,11 @@ pub fn run_whole<'a>(
 {
     let mut rest = text;
     'script: while let Some((line, after)) = first_line(rest) {
-        if MOST_BYTES <= runner.size {
-            return Ok(Progress::Stopped { stop: Stop::Full });
+        if let Some(limit) = runner.host.reached(runner.size) {
+            let stop = Stop::Full { limit };
+            return Ok(Progress::Stopped { stop });
         }
-        let Some(said) = read_line(alloc, runner.lines, line)? else {
+        let Some(said) = read_line(alloc, runner.setup, line)? else {
             let stop = Stop::Bad {
                 line: runner.lines + 1,
             };
@@ -87,13 +91,20 @@ pub fn run_whole<'a>(
         if is_end(&said) {
             return Ok(Progress::Stopped { stop: Stop::Ended });
         }
-        run_line(alloc, said, &mut runner.host, out)?;
+        let size = runner.size + (line.len() + 1);
+        runner.setup = setup_after(&said, runner.setup);
+        if let Some(limit) = run_line(alloc, said, size, &mut runner.host, out)? {
+            let stop = Stop::Full { limit };
+            return Ok(Progress::Stopped { stop });
+        }
         runner.lines += 1;
-        runner.size += line.len() + 1;
+        runner.size = size;
         rest = after;
     }
-    if MOST_BYTES <= runner.size {
-        return Ok(Progress::Stopped { stop: Stop::Full });
+    let full = runner.host.reached(runner.size);
+    if let Some(limit) = full {
+        let stop = Stop::Full { limit };
+        return Ok(Progress::Stopped { stop });
     }
     if rest.len() > 4096 {
         let stop = Stop::Bad {

@@ -1,9 +1,9 @@
 ghost use Rattle.std.specs.Prelude.{◌≡◌, ◌++◌, [], ◌∷◌, OnOk, decimal};
-ghost use Rattle.run_model.specs.Print.{print_line, line_text, proposal_text};
+ghost use Rattle.run_model.specs.Print.{print_line, limit_text, line_text, proposal_text};
 
 use crate::buffer::Buffer;
 use host_ids::{NoMemory, Proposal, Text};
-use run_model::Line;
+use run_model::{Limit, Line};
 
 /// Adds a space and a proposal.
 fn print_proposal(out: &mut Buffer, proposal: &Proposal) -> Result<(), NoMemory>
@@ -53,6 +53,16 @@ fn print_context(out: &mut Buffer, verb: &[u8], context: &Text, number: u64) -> 
     out.number(number)
 }
 
+/// Adds the line of a limit that was reached.
+fn print_limit(out: &mut Buffer, limit: Limit) -> Result<(), NoMemory>
+    ensures { OnOk result (out.new ≡ out.old ++ limit_text limit) }
+{
+    match limit {
+        Limit::Entries => out.text(b"limit entries 200000"),
+        Limit::Script => out.text(b"limit script 67108864"),
+    }
+}
+
 /// Adds a line without its line feed.
 fn print_text(out: &mut Buffer, context: &Text, line: &Line) -> Result<(), NoMemory>
     ensures { OnOk result (out.new ≡ out.old ++ line_text context.now line.now) }
@@ -100,7 +110,7 @@ fn print_text(out: &mut Buffer, context: &Text, line: &Line) -> Result<(), NoMem
             out.word(context.bytes())?;
             print_proposal(out, &entry.proposal)
         }
-        Line::LimitScript => out.text(b"limit script 67108864"),
+        Line::Reached { limit } => print_limit(out, *limit),
         Line::Usage => out.text(b"usage"),
         Line::BadLine { line } => {
             out.text(b"badline")?;

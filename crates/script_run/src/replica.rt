@@ -1,6 +1,6 @@
-ghost use Rattle.std.specs.Prelude.{◌≡◌, ◌+◌, ◌-◌, ◌<◌, ◌≤◌, ◌^◌, [], ◌∷◌, ℕ, OnOk, IfOk, length, min, not};
+ghost use Rattle.std.specs.Prelude.{◌≡◌, ◌+◌, ◌-◌, ◌<◌, ◌≤◌, ◌^◌, [], ◌∷◌, ℕ, OnOk, IfOk, ◌||◌, length, min, not};
 ghost use Rattle.std.specs.List.{list_any};
-ghost use Rattle.run_model.specs.Replica.{fresh, is_leader, is_candidate, is_full, is_changed, last, term_at, on_timeout, appended, crowned, lead, greatest, may_commit, commit_rule, own_match, may_read, on_local_proposal, on_local_read, own_vote, saved_as, save_by, on_save, next_id, ripe, gave_batch, batch_end};
+ghost use Rattle.run_model.specs.Replica.{fresh, is_leader, is_candidate, is_full, is_changed, is_pending, last, term_at, on_timeout, appended, crowned, lead, greatest, may_commit, commit_rule, own_match, may_read, on_local_proposal, on_local_read, own_vote, saved_as, save_by, on_save, next_id, ripe, gave_batch, batch_end};
 ghost use Rattle.run_model.specs.Run.{is_dropped};
 ghost use Rattle.run_model.specs.Replica.{batch_of, saved_batch};
 ghost use Rattle.script_run.specs.Host.{timeout_notes, read_notes, lead_notes, saving_notes};
@@ -50,7 +50,8 @@ fn is_candidate(role: Role) -> bool
     matches!(role, Role::Candidate)
 }
 
-fn last(replica: &Replica) -> u64
+/// The last index.
+pub fn last(replica: &Replica) -> u64
     ensures value { result ≡ last replica.now }
     ensures small { result < 2 ^ 63 }
 {
@@ -162,6 +163,16 @@ fn is_changed(replica: &Replica) -> bool
         return true;
     }
     replica.from <= last(replica)
+}
+
+/// Whether a batch is pending or something changed.
+pub fn is_unsaved(replica: &Replica) -> bool
+    ensures { result ≡ (is_pending replica.now.pending || is_changed replica.now) }
+{
+    if replica.pending.is_some() {
+        return true;
+    }
+    is_changed(replica)
 }
 
 /// Whether a leader may commit an index.

@@ -101,7 +101,15 @@ fn worked_scripts(rt: HostRuntime) -> Result<(), Fail> {
         ),
         ("", 3, "badline 1\n"),
         ("end\nwhat follows is not judged", 0, "end\n"),
-        ("host 1\n\nend\n", 3, "started 1 1\nbadline 2\n"),
+        ("\n# a comment\nhost 1\n\nend\n", 0, "started 1 1\nend\n"),
+        ("#\ngroup 1 regular 1\nend\n", 3, "badline 2\n"),
+        ("host 1\nhost 1\nend\n", 3, "started 1 1\nbadline 2\n"),
+        ("host 1\n#\nsettle 1\nend\n", 3, "started 1 1\nbadline 3\n"),
+        (
+            "host 1\ngroup 1 regular 1\nsettle 1 1\nend\n",
+            3,
+            "started 1 1\nbadline 3\n",
+        ),
         (
             "host 1\ngroup 1 regular 1\nask 1 1 a put X 1\nend\n",
             3,
@@ -111,6 +119,26 @@ fn worked_scripts(rt: HostRuntime) -> Result<(), Fail> {
             "host 1\ngroup 1 regular 1\ntimeout 1 1\nsave 1 1\nsave 1 1\nask 1 1 a put n 18446744073709551615\nask 1 1 b add n 1\nask 1 1 c put n 07\nask 1 1 d add n 1\nask 1 1 e del n\nask 1 1 f add m 2\nsave 1 1\napply 1 1 9\nread 1 1 g count\nend\n",
             0,
             "started 1 1\nleader 1 1 1\nask a 1 put n 18446744073709551615\nask b 1 add n 1\nask c 1 put n 07\nask d 1 add n 1\nask e 1 del n\nask f 1 add m 2\ndone a 2 -\ndone b 3 !\ndone c 4 18446744073709551615\ndone d 5 !\ndone e 6 07\ndone f 7 2\nask g 1 read count\nread g 7 1\nentry 1 1 - blank\nentry 1 2 a put n 18446744073709551615\nentry 1 3 b add n 1\nentry 1 4 c put n 07\nentry 1 5 d add n 1\nentry 1 6 e del n\nentry 1 7 f add m 2\nend\n",
+        ),
+        (
+            "host 1\ngroup 1 regular 1\ntimeout 1 1\nsettle 1\nend\n",
+            0,
+            "started 1 1\nleader 1 1 1\nentry 1 1 - blank\nend\n",
+        ),
+        (
+            "host 1\ngroup 1 regular 1\nsettle 1\nask 1 1 a put x 1\ntimeout 1 1\nsave 1 1\nread 1 1 b count\nend\n",
+            0,
+            "started 1 1\nask a 1 put x 1\ndropped a\nleader 1 1 1\nask b 1 read count\ndropped b\nend\n",
+        ),
+        (
+            "host 1\ngroup 1 regular 1\ntimeout 1 1\nsettle 1\nask 1 1 a put n 18446744073709551615\nask 1 1 b add n 1\nask 1 1 c put n 07\nask 1 1 d add n 1\nsettle 1\nend\n",
+            0,
+            "started 1 1\nleader 1 1 1\nask a 1 put n 18446744073709551615\nask b 1 add n 1\nask c 1 put n 07\nask d 1 add n 1\ndone a 2 -\ndone b 3 !\ndone c 4 18446744073709551615\ndone d 5 !\nentry 1 1 - blank\nentry 1 2 a put n 18446744073709551615\nentry 1 3 b add n 1\nentry 1 4 c put n 07\nentry 1 5 d add n 1\nend\n",
+        ),
+        (
+            "host 1\ngroup 1 regular 1\ntimeout 1 1\nsettle 1\ndel\nend\n",
+            3,
+            "started 1 1\nleader 1 1 1\nbadline 5\n",
         ),
         (
             "host 1\ngroup 1 regular 1\nsave 1 1\napply 1 1 1\ntimeout 1 1\nsave 1 1\ntimeout 1 1\nend\n",
@@ -198,5 +226,38 @@ fn long_lines(rt: HostRuntime) -> Result<(), Fail> {
     let (status, text) = run(&rt, "run", script.as_str(), &[], &[])?;
     assert_eq!(rt; status.number, 0);
     assert!(rt; text.as_str().ends_with("7\ndropped a\nend\n"), "{text}");
+    Ok(())
+}
+
+/// A script with so many asks of one key, and what they print.
+fn asks(rt: &HostRuntime, count: u64) -> Result<(String, String), Fail> {
+    let alloc = rt.alloc();
+    let mut script = String::from_str(alloc, "host 1\ngroup 1 regular 1\ntimeout 1 1\nsettle 1\n")?;
+    let mut printed = String::from_str(alloc, "started 1 1\nleader 1 1 1\n")?;
+    for number in 1..=count {
+        script.push_str(format!(in alloc; "ask 1 1 c{number} add n 1\n")?.as_str())?;
+        printed.push_str(format!(in alloc; "ask c{number} 1 add n 1\n")?.as_str())?;
+    }
+    Ok((script, printed))
+}
+
+#[test]
+fn limit_of_entries(rt: HostRuntime) -> Result<(), Fail> {
+    let (mut script, mut printed) = asks(&rt, 199_999)?;
+    script.push_str("settle 1\n")?;
+    printed.push_str("limit entries 200000\n")?;
+    let (status, text) = run(&rt, "run", script.as_str(), &[], &[])?;
+    assert_eq!(rt; status.number, 7);
+    assert!(rt; text.as_str() == printed.as_str());
+    let (mut script, printed) = asks(&rt, 199_998)?;
+    script.push_str("settle 1\nread 1 1 r get n\nend\n")?;
+    let (status, text) = run(&rt, "run", script.as_str(), &[], &[])?;
+    assert_eq!(rt; status.number, 0);
+    assert!(rt; text.as_str().starts_with(printed.as_str()));
+    assert!(rt;
+        text.as_str().contains(
+            "done c199998 199999 199998\nask r 1 read get n\nread r 199999 199998\n"
+        )
+    );
     Ok(())
 }

@@ -1,6 +1,6 @@
-ghost use Rattle.std.specs.Prelude.{◌≡◌, ◌≢◌, List, ℕ, Some, ◌≤◌, ◌<◌, ◌↔◌, ◌⊎◌, IfOk, IsTrue, false};
+ghost use Rattle.std.specs.Prelude.{◌≡◌, ◌≢◌, List, ℕ, Some, ◌≤◌, ◌<◌, ◌↔◌, ◌⊎◌, IfOk, IsTrue, true, false};
 ghost use Rattle.fault_io.specs.Faults.{Rose, WritesFront};
-ghost use Rattle.script_run.specs.Top.{is_run, status_of, StopsWith, IsExactly, IsAnswer, IsBroken, HasRun, WritesAll, WritesSome, WasCut, IsLegalRun, Takes, Finished, usage};
+ghost use Rattle.script_run.specs.Top.{is_run, IsComplete, status_of, StopsWith, IsExactly, IsAnswer, IsBroken, HasRun, WritesAll, WritesSome, WasCut, IsLegalRun, Takes, Finished, usage};
 ghost use Rattle.script_run.specs.World.{world_of};
 
 use crate::buffer::Buffer;
@@ -10,15 +10,15 @@ use crate::lines::Runner;
 use crate::stream::{Streamed, run_stream};
 use fault_io::{IoFault, Sink, Source, put_all};
 use host_ids::Text;
-use run_law::runs_are_legal;
-use run_model::Stop;
+use run_law::{runs_are_legal, scripts_end};
+use run_model::{Setup, Stop};
 use std::alloc::Global;
 
 /// How a call of the program ended.
 ///
 /// 0: the script came to its `end`. 2: the words were no form of the program. 3: a line is bad, or
-/// the last one isn't whole. 4: the source failed. 5: the sink failed. 7: the limit on the bytes of
-/// a script was reached. 8: memory ran out. Source: this project's own.
+/// the last one isn't whole. 4: the source failed. 5: the sink failed. 7: a limit was reached. 8:
+/// memory ran out. Source: this project's own.
 #[derive(Clone, Copy, Debug, PartialEq, Eq)]
 pub struct Status {
     /// The number, as a process gives it.
@@ -31,7 +31,7 @@ fn status_of(stop: Stop) -> u8
     match stop {
         Stop::Ended => 0,
         Stop::Bad { .. } | Stop::Spent { .. } => 3,
-        Stop::Full => 7,
+        Stop::Full { .. } => 7,
     }
 }
 
@@ -68,12 +68,15 @@ fn run_script<S: Source, K: Sink>(alloc: Global, source: &mut S, sink: &mut K) -
     ensures run { (input : List ℕ) → S.left source.old ≡ Some input → HasRun input (K.contents sink.old) (K.contents sink.new) result.number }
     ensures cut { result.number ≡ 4 → WasCut (S.left source.old) (S.left source.new) (K.contents sink.old) (K.contents sink.new) }
     ensures bound { Takes (S.left source.old) (S.left source.new) 67121153 }
+    ensures complete { (input : List ℕ) → S.left source.old ≡ Some input → IsComplete input (Rose (S.fault_count source.old) (S.fault_count source.new)) (Rose (K.fault_count sink.old) (K.fault_count sink.new)) result.number }
     ensures read { result.number ≡ 4 → Rose (S.fault_count source.old) (S.fault_count source.new) }
     ensures write { result.number ≡ 5 → Rose (K.fault_count sink.old) (K.fault_count sink.new) }
 {
     runs_are_legal();
+    scripts_end();
     let mut runner = Runner {
         host: Host::new(alloc),
+        setup: Setup::Nothing,
         lines: 0,
         size: 0,
     };
@@ -100,8 +103,10 @@ fn run_script<S: Source, K: Sink>(alloc: Global, source: &mut S, sink: &mut K) -
 /// the whole output is legal for each group by the entries that it shows (`headline`); 2 where the
 /// words are not `run` (`usage`); 3 where a line is bad or the last one isn't whole (`bad_line`);
 /// 4 where the source failed in this call (`read_fault`), and 5 where the sink did (`write_fault`);
-/// 7 where the lines that were read have 67,108,864 bytes or more before a line (`limit`); 8 where
-/// memory ran out, which has no cause in a clause. At 0, 3 and 7 all of the run's output is written
+/// 7 where, before a line or before an event of a `settle`, leaders have appended 200,000 entries or
+/// more, or the lines that were read have 67,108,864 bytes or more (`limit`); 8 where memory ran
+/// out, which has no cause in a clause. A script of the grammar that reaches no limit gives 0 or 8
+/// where neither the source nor the sink fails (`complete`). At 0, 3 and 7 all of the run's output is written
 /// (`lines`), at 4 what the lines that were taken print (`cut`), at 5 and 8 a front of the output
 /// (`front`). Fewer than 67,121,153 bytes are taken (`bound`). Source: this project's own.
 pub fn run_top<S: Source, K: Sink>(
@@ -119,6 +124,7 @@ pub fn run_top<S: Source, K: Sink>(
     ensures done { (input : List ℕ) → S.left source.old ≡ Some input → IsExactly (StopsWith input 0) 0 result.number }
     ensures bad_line { (input : List ℕ) → S.left source.old ≡ Some input → IsExactly (StopsWith input 3) 3 result.number }
     ensures limit { (input : List ℕ) → S.left source.old ≡ Some input → IsExactly (StopsWith input 7) 7 result.number }
+    ensures complete { (input : List ℕ) → S.left source.old ≡ Some input → is_run words.now ≡ true → IsComplete input (Rose (S.fault_count source.old) (S.fault_count source.new)) (Rose (K.fault_count sink.old) (K.fault_count sink.new)) result.number }
     ensures lines { (input : List ℕ) → S.left source.old ≡ Some input → IsAnswer result.number → WritesAll input (K.contents sink.old) (K.contents sink.new) }
     ensures headline { (input : List ℕ) → S.left source.old ≡ Some input → result.number ≡ 0 → IsLegalRun input (K.contents sink.old) (K.contents sink.new) }
     ensures cut { result.number ≡ 4 → WasCut (S.left source.old) (S.left source.new) (K.contents sink.old) (K.contents sink.new) }

@@ -1,63 +1,103 @@
-use Rattle.std.proofs.Common.{sym, ◌∙◌, ap, ◌++◌, List, ℕ, append_assoc, arith}
-use Rattle.run_model.specs.Run.{step, text_of}
+use Rattle.std.proofs.Common.{◌≡◌, sym, ◌∙◌, ap, ◌++◌, ◌+◌, List, ℕ, None, length, append_assoc, arith}
+use Rattle.run_model.specs.Run.{turn, reached, text_of}
 use Rattle.script_run.specs.World.{world_of}
-use Rattle.script_run.proofs.Runs.{ends, at_limit, at_bad, at_end, at_long, next_ahead}
+use Rattle.script_run.proofs.Runs.{ends, at_limit, at_bad, at_end, at_long, next_ahead, full_reached, reached_below}
 use Rattle.script_run.proofs.lines.run_whole.Goals as goal
 
-pub returns-then-runner-ge-MOST_BYTES : goal.returns-then-runner-ge-MOST_BYTES
-returns-then-runner-ge-MOST_BYTES c =
-    let v = c.script.invariant in (
+pub returns-in-Some-reached : goal.returns-in-Some-reached
+returns-in-Some-reached c =
+    let v = c.script.invariant in
+    let r = c.script.runner in (
       v.0,
       v.1.printed,
-      λ more. ends v.0 _ _ _ _ (v.1.ahead more) (at_limit (world_of c.script.runner.host) c.script.runner.lines c.script.runner.size (c.script.rest.now ++ more) c.if-runner-ge-MOST_BYTES.true),
+      λ more. ends v.0 _ _ _ _ (v.1.ahead more) (at_limit r.setup (world_of r.host) r.lines r.size (c.script.rest.now ++ more) c.in-Some-reached.limit (sym c.reached.ensures ∙ c.in-Some-reached.is)),
     )
 
 pub returns-in_default-2 : goal.returns-in_default-2
 returns-in_default-2 c =
-    let v = c.script.invariant in (
-      v.0,
-      v.1.printed,
-      λ more. ends v.0 _ _ _ _ (v.1.ahead more)
-          (rw (c.in-Some.ensures.parts more) (at_bad _ _ _ c.in-Some.line.now (c.in-Some.after.now ++ more) c.if-runner-ge-MOST_BYTES.false (sym c.in_ok-said.ensures ∙ c.in_default-2.is))),
-    )
-
-pub returns-then-is_end : goal.returns-then-is_end
-returns-then-is_end c =
-    let v = c.script.invariant in (
+    let v = c.script.invariant in
+    let r = c.script.runner in (
       v.0,
       v.1.printed,
       λ more. ends v.0 _ _ _ _ (v.1.ahead more)
           (rw (c.in-Some.ensures.parts more)
-          (at_end _ _ _ c.in-Some.line.now (c.in-Some.after.now ++ more) c.in-Some-2.said c.if-runner-ge-MOST_BYTES.false (sym c.in_ok-said.ensures ∙ c.in-Some-2.is) (sym c.is_end.ensures ∙ c.if-is_end.true))),
+          (at_bad r.setup (world_of r.host) r.lines r.size c.in-Some.line.now (c.in-Some.after.now ++ more) (sym c.reached.ensures ∙ c.in_default-reached.is) (sym c.in_ok-said.ensures ∙ c.in_default-2.is))),
+    )
+
+pub returns-then-is_end : goal.returns-then-is_end
+returns-then-is_end c =
+    let v = c.script.invariant in
+    let r = c.script.runner in (
+      v.0,
+      v.1.printed,
+      λ more. ends v.0 _ _ _ _ (v.1.ahead more)
+          (rw (c.in-Some.ensures.parts more)
+          (at_end r.setup (world_of r.host) r.lines r.size c.in-Some.line.now (c.in-Some.after.now ++ more) c.in-Some-2.said (sym c.reached.ensures ∙ c.in_default-reached.is) (sym c.in_ok-said.ensures ∙ c.in-Some-2.is) (sym c.is_end.ensures ∙ c.if-is_end.true))),
+    )
+
+pub returns-in-Some-3 : goal.returns-in-Some-3
+returns-in-Some-3 c =
+    let v = c.script.invariant in
+    let r = c.script.runner in
+    let w = world_of r.host in
+    let lines = text_of (turn c.in-Some-2.said (r.size + (length c.in-Some.line.now + 1)) w).told in (
+      v.0 ++ lines,
+      c.in_ok-limit.ensures.told ∙ ap (λ (l : List ℕ). l ++ lines) v.1.printed ∙ append_assoc c.args.out.now v.0 lines,
+      λ more. rw c.in_ok-limit.ensures.world
+          (full_reached v.0 r.setup w r.lines r.size (c.script.rest.now ++ more) c.in-Some.line.now (c.in-Some.after.now ++ more) c.in-Some-2.said c.in-Some-3.limit _ (v.1.ahead more) (c.in-Some.ensures.parts more)
+          (sym c.reached.ensures ∙ c.in_default-reached.is) (sym c.in_ok-said.ensures ∙ c.in-Some-2.is) (sym c.is_end.ensures ∙ c.if-is_end.false) (sym c.in_ok-limit.ensures.full ∙ c.in-Some-3.is)),
     )
 
 pub script-preserved : goal.script-preserved
 script-preserved c =
     let v = c.script.invariant in
-    let lines = text_of (step c.in-Some-2.said (world_of c.script.runner.host)).told in (
+    let r = c.script.runner in
+    let w = world_of r.host in
+    let lines = text_of (turn c.in-Some-2.said (r.size + (length c.in-Some.line.now + 1)) w).told in (
       v.0 ++ lines,
       record {
-        printed = c.in_ok-run_line.ensures.told ∙ ap (λ (l : List ℕ). l ++ lines) v.1.printed ∙ append_assoc c.args.out.now v.0 lines;
-        ahead = λ more. next_ahead v.0 (world_of c.script.runner.host) (world_of c.run_line.new.host) c.script.runner.lines c.script.runner.size (c.script.rest.now ++ more) c.in-Some.line.now (c.in-Some.after.now ++ more) c.in-Some-2.said _
-            (v.1.ahead more) (c.in-Some.ensures.parts more) c.if-runner-ge-MOST_BYTES.false (sym c.in_ok-said.ensures ∙ c.in-Some-2.is) (sym c.is_end.ensures ∙ c.if-is_end.false) c.in_ok-run_line.ensures.world;
+        printed = c.in_ok-limit.ensures.told ∙ ap (λ (l : List ℕ). l ++ lines) v.1.printed ∙ append_assoc c.args.out.now v.0 lines;
+        ahead = λ more. rw (c.in_ok-limit.ensures.world, c.setup_after-runner.ensures)
+            (next_ahead v.0 r.setup w r.lines r.size (c.script.rest.now ++ more) c.in-Some.line.now (c.in-Some.after.now ++ more) c.in-Some-2.said _ (v.1.ahead more) (c.in-Some.ensures.parts more)
+            (sym c.reached.ensures ∙ c.in_default-reached.is) (sym c.in_ok-said.ensures ∙ c.in-Some-2.is) (sym c.is_end.ensures ∙ c.if-is_end.false) (sym c.in_ok-limit.ensures.full ∙ c.in_default-3.is));
         sizes = omega (arith, c.in-Some.ensures.length, v.1.sizes);
         counts = omega (arith, v.1.counts);
       },
     )
 
-pub returns-then-runner-ge-MOST_BYTES-2 : goal.returns-then-runner-ge-MOST_BYTES-2
-returns-then-runner-ge-MOST_BYTES-2 c =
-    let v = c.script.invariant in (
+pub returns-in-Some-full : goal.returns-in-Some-full
+returns-in-Some-full c =
+    let v = c.script.invariant in
+    let r = c.script.runner in (
       v.0,
       v.1.printed,
-      λ more. ends v.0 _ _ _ _ (v.1.ahead more) (at_limit (world_of c.script.runner.host) c.script.runner.lines c.script.runner.size (c.script.rest.now ++ more) c.if-runner-ge-MOST_BYTES-2.true),
+      λ more. ends v.0 _ _ _ _ (v.1.ahead more) (at_limit r.setup (world_of r.host) r.lines r.size (c.script.rest.now ++ more) c.in-Some-full.limit (sym c.reached-full.ensures ∙ c.in-Some-full.is)),
     )
 
 pub returns-then-rest-gt4096 : goal.returns-then-rest-gt4096
 returns-then-rest-gt4096 c =
-    let v = c.script.invariant in (
+    let v = c.script.invariant in
+    let r = c.script.runner in (
       v.0,
       v.1.printed,
       λ more. ends v.0 _ _ _ _ (v.1.ahead more)
-          (at_long (world_of c.script.runner.host) c.script.runner.lines c.script.runner.size c.script.rest.now more c.if-runner-ge-MOST_BYTES-2.false c.in_default.ensures.parts c.if-rest-gt4096.true),
+          (at_long r.setup (world_of r.host) r.lines r.size c.script.rest.now more (sym c.reached-full.ensures ∙ c.in_default-full.is) c.in_default.ensures.parts c.if-rest-gt4096.true),
+    )
+
+pub returns : goal.returns
+returns c =
+    let v = c.script.invariant in
+    let r = c.script.runner in
+    let within : reached (world_of r.host) r.size ≡ None = sym c.reached-full.ensures ∙ c.in_default-full.is in (
+      v.0,
+      v.1.printed,
+      record {
+        ahead = v.1.ahead;
+        open_end = c.in_default.ensures.parts;
+        short = c.if-rest-gt4096.false;
+        below = reached_below (world_of r.host) r.size within;
+        within = within;
+        sizes = v.1.sizes;
+        counts = v.1.counts;
+      },
     )

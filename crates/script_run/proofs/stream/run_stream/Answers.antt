@@ -1,10 +1,10 @@
-use Rattle.std.proofs.Common.{rules, tests, subst, arith, sym, ◌∙◌, ◌≡◌, ◌<◌, List, ◌++◌, ℕ, take, length}
+use Rattle.std.proofs.Common.{rules, tests, subst, arith, sym, ◌∙◌, ◌≡◌, ◌<◌, List, [], ◌++◌, ℕ, take, length}
 use Rattle.std.proofs.lemmas.Grind.{common_steps}
 use Rattle.std.proofs.lemmas.List.{append-nil}
 use Rattle.std.proofs.lemmas.Result.{err_from_is_err_and}
 use Rattle.script_run.specs.Top.{place_of}
 use Rattle.script_run.specs.Reach.{Leaves, StopsAt}
-use Rattle.script_run.proofs.Streams.{Under, took, took_none, gave_up, gave_up_here, went_on, stopped_here, cut_here}
+use Rattle.script_run.proofs.Streams.{Under, begins, begins_within, took, took_none, gave_up, gave_up_here, went_on, stopped_here, cut_here}
 use Rattle.script_run.proofs.stream.run_stream.Goals as goal
 
 pub returns-in-Ok-eq0-clause-streamed : goal.returns-in-Ok-eq0-clause-streamed
@@ -13,7 +13,7 @@ returns-in-Ok-eq0-clause-streamed g c =
     let none : c.in-Ok-eq0.field-0 ≡ 0 = search (rules, tests) in
     let u = took _ _ _ _ _ (place_of c.source.runner) c.source.held.items v.0 v.1 (take c.in-Ok-eq0.field-0 c.take.new.into) v.2.under c.in-Ok-eq0.ensures.bytes.0 in
     cut_here _ _ _ _ (place_of c.source.runner) c.source.held.items v.0 v.1
-    (rw (none, append-nil c.source.held.items, append-nil v.0) at u) v.2.open_end v.2.short v.2.below
+    (rw (none, append-nil c.source.held.items, append-nil v.0) at u) v.2.open_end v.2.short v.2.within
 
 pub returns-in_err-extend_from_slice-in-Ok-clause-err : goal.returns-in_err-extend_from_slice-in-Ok-clause-err
 returns-in_err-extend_from_slice-in-Ok-clause-err g c =
@@ -29,7 +29,7 @@ pub returns-in-Err-Failed-clause-streamed : goal.returns-in-Err-Failed-clause-st
 returns-in-Err-Failed-clause-streamed g c =
     let v = c.source.invariant in
     cut_here _ _ _ _ (place_of c.source.runner) c.source.held.items v.0 v.1
-    (took_none _ _ _ _ _ (place_of c.source.runner) c.source.held.items v.0 v.1 v.2.under c.in-Err-Failed.ensures.bytes) v.2.open_end v.2.short v.2.below
+    (took_none _ _ _ _ _ (place_of c.source.runner) c.source.held.items v.0 v.1 v.2.under c.in-Err-Failed.ensures.bytes) v.2.open_end v.2.short v.2.within
 
 pub returns-in-Err-NoMemory-clause-err : goal.returns-in-Err-NoMemory-clause-err
 returns-in-Err-NoMemory-clause-err g c =
@@ -119,9 +119,28 @@ source-preserved g c =
         under = rw same n;
         counts = l.counts;
         below = l.below;
+        within = l.within;
         short = rw same l.short;
         open_end = rw same l.open_end;
         later_source = omega (arith, v.2.later_source, c.in-Ok.ensures.cause.later);
         later = omega (arith, v.2.later, c.in_ok-put_all-in-Left.ensures.cause.later);
+      },
+    )
+
+pub source-init : goal.source-init
+source-init g c =
+    let r = c.requires in
+    let p = place_of c.args.runner.now in (
+      [],
+      [],
+      record {
+        under = begins _ _ p c.new-held.result.items r.world r.setup r.lines r.size c.new-held.ensures.items;
+        counts = omega (arith, r.lines);
+        below = omega (arith, r.size);
+        within = begins_within p.world p.size r.world r.size;
+        short = rw c.new-held.ensures.items (omega arith);
+        open_end = rw c.new-held.ensures.items tt;
+        later_source = omega arith;
+        later = omega arith;
       },
     )

@@ -1,5 +1,6 @@
-use Rattle.std.proofs.Common.{◌+◌, ◌-◌, ◌≤◌, ◌<◌, List, ℕ, length}
-use Rattle.run_model.specs.Run.{most_bytes}
+use Rattle.std.proofs.Common.{◌≡◌, ◌+◌, ◌-◌, ◌≤◌, ◌<◌, List, ℕ, None, length}
+use Rattle.run_model.specs.Run.{most_bytes, reached}
+use Rattle.script_run.specs.World.{world_of}
 use Rattle.script_run.specs.Top.{place_of}
 use Rattle.script_run.specs.Reach.{HasNoFeed}
 use Rattle.script_run.proofs.Streams.{Under}
@@ -11,6 +12,7 @@ invariant-source g l =
       under : Under (g.S.Source.left l.initial.source) (g.S.Source.left l.source) (g.K.Sink.contents l.initial.sink) (g.K.Sink.contents l.sink) (place_of l.runner) l.held.items script done;
       counts : l.runner.lines ≤ l.runner.size;
       below : l.runner.size < most_bytes;
+      within : reached (world_of l.runner.host) l.runner.size ≡ None;
       short : length l.held.items ≤ 4096;
       open_end : HasNoFeed l.held.items;
       later_source : g.S.Source.fault_count l.initial.source ≤ g.S.Source.fault_count l.source;

@@ -1,8 +1,10 @@
-//! The key-value object as an ordered map.
+//! The key-value object as an ordered map, and its images.
 #![tactic(auto)]
 
+mod image;
 mod kv;
 
+pub use image::ImageFault;
 pub use kv::Kv;
 
 #[cfg(test)]

@@ -9,6 +9,7 @@ pub mod Repeats
 pub mod Courses
 pub mod There
 pub mod Spelling
+pub mod Reading
 pub mod Ordered
 pub mod Objects
 pub mod Lists

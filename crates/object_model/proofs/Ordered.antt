@@ -16,22 +16,22 @@ use Rattle.object_model.specs.Image.{is_ascending, is_pair}
 -- ---- order
 
 -- the first of these keys, if there is one, is above this one
-abbrev is_below : List ℕ → Pairs → Bool
+abbrev pub is_below : List ℕ → Pairs → Bool
 is_below key [] = true
 is_below key (e ∷ rest) = is_lt (key_order key e.0)
 
 -- the first of ascending pairs is below the others, which ascend
-ascending_parts : (e : List ℕ × List ℕ) (rest : Pairs) → is_ascending (e ∷ rest) ≡ true → (is_below e.0 rest ≡ true) × (is_ascending rest ≡ true)
+pub ascending_parts : (e : List ℕ × List ℕ) (rest : Pairs) → is_ascending (e ∷ rest) ≡ true → (is_below e.0 rest ≡ true) × (is_ascending rest ≡ true)
 ascending_parts e [] h = (refl, refl)
 ascending_parts e (f ∷ rest) h = and_parts (is_lt (key_order e.0 f.0)) (is_ascending (f ∷ rest)) h
 
 -- ascending pairs ascend behind a pair whose key is below theirs
-ascending_from : (e : List ℕ × List ℕ) (rest : Pairs) → is_below e.0 rest ≡ true → is_ascending rest ≡ true → is_ascending (e ∷ rest) ≡ true
+pub ascending_from : (e : List ℕ × List ℕ) (rest : Pairs) → is_below e.0 rest ≡ true → is_ascending rest ≡ true → is_ascending (e ∷ rest) ≡ true
 ascending_from e [] h k = refl
 ascending_from e (f ∷ rest) h k = and_from (is_lt (key_order e.0 f.0)) (is_ascending (f ∷ rest)) h k
 
 -- the one order that `is_lt` tells
-less : (o : Ordering) → is_lt o ≡ true → o ≡ Less
+pub less : (o : Ordering) → is_lt o ≡ true → o ≡ Less
 less Less h = refl
 less Equal h = absurd cc
 less Greater h = absurd cc
@@ -41,7 +41,7 @@ flipped : (a b : List ℕ) → key_order a b ≡ Greater → is_lt (key_order b 
 flipped a b h = ap is_lt (nat_list_cmp_total.antisymm b a ∙ ap ordering_reverse h)
 
 -- what is below a key is below those above it
-below_through : (a b c : List ℕ) → is_lt (key_order a b) ≡ true → is_lt (key_order b c) ≡ true → is_lt (key_order a c) ≡ true
+pub below_through : (a b c : List ℕ) → is_lt (key_order a b) ≡ true → is_lt (key_order b c) ≡ true → is_lt (key_order a c) ≡ true
 below_through a b c h k = ap is_lt (nat_list_cmp_total.trans a b c (less (key_order a b) h) (less (key_order b c) k))
 
 -- what is below the first key is below the next one

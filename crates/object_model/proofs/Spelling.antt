@@ -34,12 +34,12 @@ spelt_alike a b c d h k e =
     split_alike a b c d (same_16 (length a) (length b) h k parts.0) parts.1
 
 -- a key and a value are short enough to be spelt
-record IsShort (e : List ℕ × List ℕ) : Type 0 where
-  key : length e.0 < 2 ^ 16
-  value : length e.1 < 2 ^ 16
+pub record IsShort (e : List ℕ × List ℕ) : Type 0 where
+  pub key : length e.0 < 2 ^ 16
+  pub value : length e.1 < 2 ^ 16
 
 -- a pair of an object is short enough
-short_pair : (e : List ℕ × List ℕ) → is_pair e ≡ true → IsShort e
+pub short_pair : (e : List ℕ × List ℕ) → is_pair e ≡ true → IsShort e
 short_pair e h =
     let parts = and_parts (is_key e.0 && is_value e.1) (nat_le (length e.1) 512) h in
     let front = and_parts (is_key e.0) (is_value e.1) parts.0 in

@@ -1,7 +1,7 @@
 //! Laws of the definitions, each as the contract of a call that does nothing.
 
 ghost use Rattle.std.specs.Prelude.{◌≡◌, true};
-ghost use Rattle.object_model.specs.Image.{HasOneSpelling, StaysObject, FirstIsObject};
+ghost use Rattle.object_model.specs.Image.{HasOneSpelling, StaysObject, FirstIsObject, ReadsBack, SpellsOne};
 ghost use Rattle.object_model.specs.Mark.{entries};
 ghost use Rattle.object_model.specs.Decision.{legal};
 ghost use Rattle.object_model.specs.Desk.{MovesAreLegal, MovesShowNothing, MovesJoin};
@@ -12,6 +12,14 @@ ghost use Rattle.object_model.specs.Rows.{evicting, responding};
 /// Source: this project's own.
 pub fn has_one_spelling()
     ensures { HasOneSpelling }
+{}
+
+/// What bytes read as is what they are the image of: an object's image reads as that object, and
+/// bytes that read as an object are its image. So bytes are refused exactly where no object has
+/// them. Source: this project's own.
+pub fn images_are_read()
+    ensures back { ReadsBack }
+    ensures one { SpellsOne }
 {}
 
 /// An object without keys is one, and an object that is given any text stays one: its keys ascend,

@@ -14,8 +14,9 @@ mod words;
 
 pub use command::{Change, Command, MOST_KEYS, Query, command_of, decimal, query_of, shown};
 pub use laws::{
-    acts_once, decides_legal, has_one_spelling, moves_are_legal, raised_is_greatest,
-    repeats_what_acted, stands_from_front, stays_gone, stays_object, worked_outputs,
+    acts_once, decides_legal, has_one_spelling, images_are_read, moves_are_legal,
+    raised_is_greatest, repeats_what_acted, stands_from_front, stays_gone, stays_object,
+    worked_outputs,
 };
 pub use legal::{entries, is_legal};
 pub use mark::{Ending, Mark, Placed, What};

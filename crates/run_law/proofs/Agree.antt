@@ -6,17 +6,19 @@ use Rattle.std.proofs.Math.Seq.{take-append_seam}
 use Rattle.host_ids.specs.declared.entry.Key.{Key}
 use Rattle.host_ids.specs.declared.entry.Entry.{Entry}
 use Rattle.host_ids.specs.declared.proposal.Proposal.{Proposal}
-use Rattle.object_model.specs.Sequence.{state, history, proposals_of, after_all}
+use Rattle.object_model.specs.Sequence.{history, proposals_of}
 use Rattle.object_model.specs.Desk.{Request, Desk, empty_desk, Grows}
+use Rattle.run_model.specs.declared.client.ClientSession.{ClientSession}
 use Rattle.run_model.specs.declared.replica.Replica.{Replica}
 use Rattle.run_model.specs.declared.told.Want.{Want}
-use Rattle.run_model.specs.World.{World, Open, start}
+use Rattle.run_model.specs.World.{World, Open, begins_with}
 use Rattle.run_model.specs.Run.{decided_entries, named}
 use Rattle.run_law.specs.Lawful.{placed}
 use Rattle.run_law.proofs.Lists.{all_append, all_left, all_right, all_map, all_take, all_drop}
 use Rattle.run_law.proofs.Tables.{With}
 use Rattle.run_law.proofs.Names.{contexts_of, request_at, requests_of, Entered, Wanted, Waits, entered_more, wanted_more, reading_more, requests_same, all_placed_same, all_may}
 use Rattle.run_law.proofs.Replicas.{Sound, Onward}
+use Rattle.run_law.proofs.Giving.{Judges, new_judges}
 
 -- the proposals of entries as a history
 abbrev pub past : List Entry → List Proposal
@@ -31,11 +33,12 @@ pub record Agrees (limit : ℕ) (w : World) (d : Desk) : Type 0 where
   pub waiting : AllByRecursion (Waits d.asked) w.requests.waiting
   pub applied : w.cell.applied ≤ w.replica.commit
   pub sound : Sound w.replica
-  pub object : w.cell.pairs ≡ state limit (past (take w.cell.applied w.replica.log))
+  pub limit_is : w.cell.sessions.limit ≡ limit
+  pub judges : Judges (past (take w.cell.applied w.replica.log)) w.cell.sessions w.cell.pairs
 
-pub start_agrees : (limit : ℕ) → Agrees limit start empty_desk
-unfolding after_all
-start_agrees limit = record {
+-- a group begins
+pub begin_agrees : (limit : ℕ) → 1 ≤ limit → Agrees limit (begins_with limit) empty_desk
+begin_agrees limit h = record {
   decided = refl;
   contexts = refl;
   open_ones = refl;
@@ -44,7 +47,23 @@ start_agrees limit = record {
   waiting = tt;
   applied = omega arith;
   sound = record { commit = omega arith; stable = omega arith; from = omega arith; pending = refl };
-  object = refl;
+  limit_is = refl;
+  judges = new_judges limit h;
+}
+
+-- a desk knows nothing of the clients' sessions by their names
+pub clients_agrees : (limit : ℕ) (w : World) (d : Desk) (clients : List (List ℕ × ClientSession)) → Agrees limit w d → Agrees limit (record w { clients = clients }) d
+clients_agrees limit w d clients a = record {
+  decided = a.decided;
+  contexts = a.contexts;
+  open_ones = a.open_ones;
+  entries = a.entries;
+  wants = a.wants;
+  waiting = a.waiting;
+  applied = a.applied;
+  sound = a.sound;
+  limit_is = a.limit_is;
+  judges = a.judges;
 }
 
 -- what is committed is in the log
@@ -98,7 +117,8 @@ onward_agrees limit w d r a o =
         waiting = a.waiting;
         applied = omega (arith, a.applied, o.commit);
         sound = o.sound;
-        object = rw (o.log, take-append-le w.cell.applied log o.more (omega (arith, a.applied, long))) a.object;
+        limit_is = a.limit_is;
+        judges = rw (o.log, take-append-le w.cell.applied log o.more (omega (arith, a.applied, long))) a.judges;
       },
     )
 
@@ -116,7 +136,8 @@ asked_agrees limit w d context r a e =
       waiting = all_map (Waits d.asked) (Waits (d.asked ++ news)) w.requests.waiting (λ x n. reading_more d.asked news x.front x.key n) a.waiting;
       applied = a.applied;
       sound = a.sound;
-      object = a.object;
+      limit_is = a.limit_is;
+      judges = a.judges;
     }
 
 -- the serial of the next request is no open one's
@@ -140,5 +161,6 @@ opened_agrees limit w d key want after a n h k =
       waiting = k;
       applied = a.applied;
       sound = a.sound;
-      object = a.object;
+      limit_is = a.limit_is;
+      judges = a.judges;
     }

@@ -1,37 +1,47 @@
--- Entries are given to the object, and waiting reads are answered: each line is a move of the desk.
-use Rattle.std.proofs.Common.{◌≡◌, ℕ, ◌+◌, ◌-◌, ◌≤◌, List, [], ◌∷◌, ◌++◌, Option, Some, None, length, map, refl, sym, ap, ◌∙◌, append_assoc, length-append, arith}
+-- Entries are given to the sessions and to the object, and waiting reads are answered: each line is a move of the desk.
+use Rattle.std.proofs.Common.{◌≡◌, ℕ, ◌+◌, ◌-◌, ◌≤◌, List, [], ◌∷◌, ◌++◌, Option, Some, None, length, map, refl, sym, ap, ◌∙◌, subst, inl, inr, append_assoc, length-append, arith}
 use Rattle.std.specs.Prelude.{slice_get}
 use Rattle.std.specs.List.{AllByRecursion}
 use Rattle.std.proofs.lemmas.List.{append-nil, map-append, length-map}
+use Rattle.std.proofs.lemmas.Option.{none-some}
 use Rattle.host_ids.specs.declared.entry.Key.{Key}
 use Rattle.host_ids.specs.declared.entry.Entry.{Entry}
 use Rattle.host_ids.specs.declared.proposal.Proposal.{Proposal}
-use Rattle.host_ids.specs.declared.proposal.Proposal.TheVariants as proposals
 use Rattle.object_model.specs.declared.mark.What.{What}
 use Rattle.object_model.specs.declared.mark.What.TheVariants as whats
-use Rattle.object_model.specs.declared.mark.Ending.TheVariants as endings
+use Rattle.object_model.specs.declared.mark.Ending.{Ending}
 use Rattle.object_model.specs.declared.mark.Mark.TheVariants as marks
-use Rattle.object_model.specs.Object.{after, answer}
-use Rattle.object_model.specs.Sequence.{state, history, proposals_of, after_all}
+use Rattle.object_model.specs.Object.{answer}
+use Rattle.object_model.specs.Sequence.{state, history, proposals_of, verdict, effect_of, ending_by}
 use Rattle.object_model.specs.Desk.{Request, Desk, Moves, EndMove, PlaceMove, ReadMove, MovesJoin}
 use Rattle.run_model.specs.declared.told.Want.{Want}
 use Rattle.run_model.specs.declared.told.Want.TheVariants as wants
 use Rattle.run_model.specs.declared.line.Line.TheVariants as lines
 use Rattle.run_model.specs.World.{Cell}
 use Rattle.run_model.specs.Run
-use Rattle.run_model.specs.Run.{context_at, Applied, applied, applied_by, answered, want_of, without}
+use Rattle.run_model.specs.Run.{context_at, Applied, applied, applied_by, answered, given, ending_of, want_of, without}
 use Rattle.run_model.specs.Marks.{marks_of}
 use Rattle.run_law.specs.Lawful.{placed}
 use Rattle.run_law.proofs.Lists.{all_append, all_left, all_right, get_behind}
 use Rattle.run_law.proofs.Tables.{Taken, find_taken, miss_taken}
 use Rattle.run_law.proofs.Names.{contexts_of, request_at, requests_of, Within, IsSort, Entered, Wanted, IsWanted, Reading, request_is, request_alike}
+use Rattle.run_law.proofs.Giving.{Follows, Judges, limit_stays, given_judges, ending_is}
 use Rattle.run_law.proofs.Agree.{past, past_front, past_last}
 use Rattle.run_law.proofs.Joining.{same_moves, one_moves, marks_of-append}
 
 -- a cell that was given these entries
 pub record Fed (limit : ℕ) (front : List Entry) (c : Cell) : Type 0 where
   pub count : c.applied ≡ length front
-  pub object : c.pairs ≡ state limit (past front)
+  pub limit_is : c.sessions.limit ≡ limit
+  pub judges : Judges (past front) c.sessions c.pairs
+
+-- the object is what the definitions make of these entries
+fed_object : (limit : ℕ) (front : List Entry) (c : Cell) → Fed limit front c → c.pairs ≡ state limit (past front)
+fed_object limit front c f = subst (λ (n : ℕ). c.pairs ≡ state n (past front)) f.limit_is f.judges.object
+
+-- the request of a proposal ends as it does at the next place
+fed_ending : (laws : Follows) (limit : ℕ) (front : List Entry) (p : Proposal) (c : Cell) → Fed limit front c → ending_of p c ≡ ending_by (verdict limit (past front) p) p (state limit (past front))
+fed_ending laws limit front p c f = subst (λ (n : ℕ). ending_of p c ≡ ending_by (verdict n (past front) p) p (state n (past front))) f.limit_is (ending_is laws (past front) p c f.judges)
 
 -- the open requests of a desk are those of a table
 abbrev pub with_open : Desk → List (Key × Want) → Desk
@@ -77,82 +87,73 @@ kept_by : (asked : List Request) (key : Key) (ws : List (Key × Want)) (o : Opti
 kept_by asked key ws None q p = rw (miss_taken key ws q) p
 kept_by asked key ws (Some want) q p = kept_wanted asked key want ws (without key ws) (find_taken key want ws q) p
 
--- ---- giving entries to the object
-
-state_plain : (limit : ℕ) (command : List ℕ) (older : List Proposal) → state limit (proposals.Plain command ∷ older) ≡ (after (state limit older) command).pairs
-unfolding after_all
-state_plain limit command older = refl
-
-state_blank : (limit : ℕ) (older : List Proposal) → state limit (proposals.Blank ∷ older) ≡ state limit older
-unfolding after_all
-state_blank limit older = refl
+-- ---- giving entries to the cell
 
 abbrev one : List (List ℕ) → Entry → Cell → List (Key × Want) → Applied
 one contexts e c ws = applied_by contexts e.proposal e.key c ws
 
-fed_by : (limit : ℕ) (contexts : List (List ℕ)) (asked : List Request) (front : List Entry) (e : Entry) (c : Cell) (ws : List (Key × Want)) (p : Proposal) → e.proposal ≡ p → IsSort asked e.key p → Fed limit front c
-    → Fed limit (front ++ e ∷ []) (applied_by contexts p e.key c ws).cell
-fed_by limit contexts asked front e c ws proposals.Blank q s f = record {
+fed_given : (laws : Follows) (limit : ℕ) (front : List Entry) (e : Entry) (c : Cell) → Fed limit front c → Fed limit (front ++ e ∷ []) (given e.proposal c)
+fed_given laws limit front e c f = record {
   count = rw length-append (omega (arith, f.count));
-  object = rw (past_last, q, state_blank) f.object;
+  limit_is = limit_stays e.proposal (effect_of e.proposal c.pairs).reply c.sessions ∙ f.limit_is;
+  judges = rw past_last (given_judges laws (past front) e.proposal c f.judges);
 }
-fed_by limit contexts asked front e c ws (proposals.Plain command) q s f = record {
-  count = rw length-append (omega (arith, f.count));
-  object = rw (past_last, q, state_plain, ← f.object) refl;
-}
-fed_by limit contexts asked front e c ws (proposals.Session client series responded command) q s f = absurd s
-fed_by limit contexts asked front e c ws (proposals.Register client) q s f = absurd s
-fed_by limit contexts asked front e c ws (proposals.Close client) q s f = absurd s
 
-wanted_by : (contexts : List (List ℕ)) (asked : List Request) (key : Key) (c : Cell) (ws : List (Key × Want)) (p : Proposal) → IsSort asked key p → AllByRecursion (Wanted asked) ws → AllByRecursion (Wanted asked) (applied_by contexts p key c ws).wants
-wanted_by contexts asked key c ws proposals.Blank s h = h
-wanted_by contexts asked key c ws (proposals.Plain command) s h = kept_by asked key ws (want_of key ws) refl h
-wanted_by contexts asked key c ws (proposals.Session client series responded command) s h = absurd s
-wanted_by contexts asked key c ws (proposals.Register client) s h = absurd s
-wanted_by contexts asked key c ws (proposals.Close client) s h = absurd s
+-- the cell behind an entry, whether its request is open or not
+cell_given : (contexts : List (List ℕ)) (key : Key) (c : Cell) (ws : List (Key × Want)) (o : Option Ending) → (Run.ended_with o contexts key c ws).cell ≡ c
+cell_given contexts key c ws None = refl
+cell_given contexts key c ws (Some ending) = refl
 
--- a command's request ends at its place
-place_move : (limit : ℕ) (contexts : List (List ℕ)) (d : Desk) (front back : List Entry) (e : Entry) (c : Cell) (ws : List (Key × Want)) (command : List ℕ) (want : Want)
-    → Serves limit contexts d front (e ∷ back) c ws → e.proposal ≡ proposals.Plain command → IsSort d.asked e.key (proposals.Plain command) → Taken e.key want ws (without e.key ws)
-    → PlaceMove limit d (context_at contexts e.key.serial) (c.applied + 1) (endings.Done (after c.pairs command).reply) (with_open d (without e.key ws))
-place_move limit contexts d front back e c ws command want h q s t =
+wanted_by : (contexts : List (List ℕ)) (asked : List Request) (key : Key) (c : Cell) (ws : List (Key × Want)) (o : Option Ending) → AllByRecursion (Wanted asked) ws → AllByRecursion (Wanted asked) (Run.ended_with o contexts key c ws).wants
+wanted_by contexts asked key c ws None h = h
+wanted_by contexts asked key c ws (Some ending) h = kept_by asked key ws (want_of key ws) refl h
+
+-- a blank has no request that ends
+blank_or_asked : (asked : List Request) (key : Key) (p : Proposal) (c : Cell) (ending : Ending) → ending_of p c ≡ Some ending → IsSort asked key p → Within asked key × ((request_at asked key).what ≡ whats.Proposes p)
+blank_or_asked asked key p c ending e (inl blank) = let none : None ≡ Some ending = subst (λ (q : Proposal). ending_of q c ≡ Some ending) blank e in absurd (none-some ending none)
+blank_or_asked asked key p c ending e (inr s) = s
+
+-- an entry's request ends at its place
+place_move : (laws : Follows) (limit : ℕ) (contexts : List (List ℕ)) (d : Desk) (front back : List Entry) (e : Entry) (c : Cell) (ws : List (Key × Want)) (ending : Ending) (want : Want)
+    → Serves limit contexts d front (e ∷ back) c ws → ending_of e.proposal c ≡ Some ending → IsSort d.asked e.key e.proposal → Taken e.key want ws (without e.key ws)
+    → PlaceMove limit d (context_at contexts e.key.serial) (c.applied + 1) ending (with_open d (without e.key ws))
+place_move laws limit contexts d front back e c ws ending want h q sort t =
+    let s = blank_or_asked d.asked e.key e.proposal c ending q sort in
     let k : c.applied + 1 - 1 ≡ length front = omega (arith, h.fed.count) in
     let list : d.decided ≡ map (placed contexts) front ++ placed contexts e ∷ map (placed contexts) back = h.list ∙ map-append _ front (e ∷ back) in
     let there : slice_get d.decided (c.applied + 1 - 1) ≡ Some (placed contexts e) = rw list (get_behind (map (placed contexts) front) (placed contexts e) (map (placed contexts) back) (c.applied + 1 - 1) (k ∙ sym (length-map front _))) in
     let older : history (c.applied + 1 - 1) (proposals_of d.decided) ≡ past front = rw (k, h.list) (past_front contexts front (e ∷ back)) in
     record {
-      proposal = proposals.Plain command;
+      proposal = e.proposal;
       since = (request_at d.asked e.key).since;
       positive = omega arith;
-      stands = there ∙ rw q refl;
-      gives = rw (older, there, q, h.fed.object) refl;
-      ends = end_move contexts d e.key (whats.Proposes (proposals.Plain command)) want ws (without e.key ws) h.open_ones h.contexts_are s.0 s.1 t;
+      stands = there;
+      gives = rw (older, there) (sym (fed_ending laws limit front e.proposal c h.fed) ∙ q);
+      ends = end_move contexts d e.key (whats.Proposes e.proposal) want ws (without e.key ws) h.open_ones h.contexts_are s.0 s.1 t;
     }
 
-done_moves : (limit : ℕ) (contexts : List (List ℕ)) (d : Desk) (front back : List Entry) (e : Entry) (c : Cell) (ws : List (Key × Want)) (command : List ℕ) (o : Option Want)
-    → Serves limit contexts d front (e ∷ back) c ws → e.proposal ≡ proposals.Plain command → IsSort d.asked e.key (proposals.Plain command) → want_of e.key ws ≡ o
-    → Moves limit d (marks_of 1 (Run.ended o contexts e.key (lines.Done e.key 1 (c.applied + 1) (after c.pairs command).reply))) (with_open d (without e.key ws))
-done_moves limit contexts d front back e c ws command None h q s l = same_moves limit d (requests_of d.asked (without e.key ws)) (h.open_ones ∙ ap (λ (l : List (Key × Want)). requests_of d.asked l) (sym (miss_taken e.key ws l)))
-done_moves limit contexts d front back e c ws command (Some want) h q s l = one_moves limit d (with_open d (without e.key ws)) (marks.Ends (context_at contexts e.key.serial) (c.applied + 1) (endings.Done (after c.pairs command).reply))
-    (place_move limit contexts d front back e c ws command want h q s (find_taken e.key want ws l))
+ended_moves : (laws : Follows) (limit : ℕ) (contexts : List (List ℕ)) (d : Desk) (front back : List Entry) (e : Entry) (c : Cell) (ws : List (Key × Want)) (ending : Ending) (o : Option Want)
+    → Serves limit contexts d front (e ∷ back) c ws → ending_of e.proposal c ≡ Some ending → IsSort d.asked e.key e.proposal → want_of e.key ws ≡ o
+    → Moves limit d (marks_of 1 (Run.ended o contexts e.key (lines.Ended e.key 1 (c.applied + 1) ending))) (with_open d (without e.key ws))
+ended_moves laws limit contexts d front back e c ws ending None h q s l = same_moves limit d (requests_of d.asked (without e.key ws)) (h.open_ones ∙ ap (λ (l : List (Key × Want)). requests_of d.asked l) (sym (miss_taken e.key ws l)))
+ended_moves laws limit contexts d front back e c ws ending (Some want) h q s l = one_moves limit d (with_open d (without e.key ws)) (marks.Ends (context_at contexts e.key.serial) (c.applied + 1) ending)
+    (place_move laws limit contexts d front back e c ws ending want h q s (find_taken e.key want ws l))
 
 -- one entry's request, if it is open, ends by a move
-one_by : (limit : ℕ) (contexts : List (List ℕ)) (d : Desk) (front back : List Entry) (e : Entry) (c : Cell) (ws : List (Key × Want)) (p : Proposal)
-    → Serves limit contexts d front (e ∷ back) c ws → e.proposal ≡ p → IsSort d.asked e.key p → Moves limit d (marks_of 1 (applied_by contexts p e.key c ws).told) (with_open d (applied_by contexts p e.key c ws).wants)
-one_by limit contexts d front back e c ws proposals.Blank h q s = same_moves limit d (requests_of d.asked ws) h.open_ones
-one_by limit contexts d front back e c ws (proposals.Plain command) h q s = done_moves limit contexts d front back e c ws command (want_of e.key ws) h q s refl
-one_by limit contexts d front back e c ws (proposals.Session client series responded command) h q s = absurd s
-one_by limit contexts d front back e c ws (proposals.Register client) h q s = absurd s
-one_by limit contexts d front back e c ws (proposals.Close client) h q s = absurd s
+one_by : (laws : Follows) (limit : ℕ) (contexts : List (List ℕ)) (d : Desk) (front back : List Entry) (e : Entry) (c : Cell) (ws : List (Key × Want)) (o : Option Ending)
+    → Serves limit contexts d front (e ∷ back) c ws → ending_of e.proposal c ≡ o → IsSort d.asked e.key e.proposal
+    → Moves limit d (marks_of 1 (Run.ended_with o contexts e.key (given e.proposal c) ws).told) (with_open d (Run.ended_with o contexts e.key (given e.proposal c) ws).wants)
+one_by laws limit contexts d front back e c ws None h q s = same_moves limit d (requests_of d.asked ws) h.open_ones
+one_by laws limit contexts d front back e c ws (Some ending) h q s = ended_moves laws limit contexts d front back e c ws ending (want_of e.key ws) h q s refl
 
-one_serves : (limit : ℕ) (contexts : List (List ℕ)) (d : Desk) (front back : List Entry) (e : Entry) (c : Cell) (ws : List (Key × Want)) → Serves limit contexts d front (e ∷ back) c ws → Entered d.asked e
+one_serves : (laws : Follows) (limit : ℕ) (contexts : List (List ℕ)) (d : Desk) (front back : List Entry) (e : Entry) (c : Cell) (ws : List (Key × Want)) → Serves limit contexts d front (e ∷ back) c ws
     → Serves limit contexts (with_open d (one contexts e c ws).wants) (front ++ e ∷ []) back (one contexts e c ws).cell (one contexts e c ws).wants
-one_serves limit contexts d front back e c ws h n = record {
+one_serves laws limit contexts d front back e c ws h = record {
   list = h.list ∙ ap (λ (l : List Entry). map (placed contexts) l) (sym (append_assoc front (e ∷ []) back));
   contexts_are = h.contexts_are;
-  fed = fed_by limit contexts d.asked front e c ws e.proposal refl n.sort h.fed;
+  fed = subst (λ (x : Cell). Fed limit (front ++ e ∷ []) x) (sym (cell_given contexts e.key (given e.proposal c) ws (ending_of e.proposal c))) (fed_given laws limit front e c h.fed);
   open_ones = refl;
-  wanted = wanted_by contexts d.asked e.key c ws e.proposal n.sort h.wanted;
+  wanted = wanted_by contexts d.asked e.key (given e.proposal c) ws (ending_of e.proposal c) h.wanted;
 }
 
 -- some entries more are given: the requests that end do so by moves
@@ -160,20 +161,20 @@ pub record Gives (limit : ℕ) (contexts : List (List ℕ)) (d : Desk) (front ba
   pub moves : Moves limit d (marks_of 1 a.told) (with_open d a.wants)
   pub serves : Serves limit contexts (with_open d a.wants) front back a.cell a.wants
 
-pub all_given : (limit : ℕ) (contexts : List (List ℕ)) (d : Desk) (front es back : List Entry) (c : Cell) (ws : List (Key × Want)) → MovesJoin → Serves limit contexts d front (es ++ back) c ws → AllByRecursion (Entered d.asked) es
+pub all_given : (laws : Follows) (limit : ℕ) (contexts : List (List ℕ)) (d : Desk) (front es back : List Entry) (c : Cell) (ws : List (Key × Want)) → MovesJoin → Serves limit contexts d front (es ++ back) c ws → AllByRecursion (Entered d.asked) es
     → Gives limit contexts d (front ++ es) back (applied contexts es c ws)
 unfolding applied
-all_given limit contexts d front [] back c ws join h p = rw append-nil (record {
+all_given laws limit contexts d front [] back c ws join h p = rw append-nil (record {
   moves = same_moves limit d (requests_of d.asked ws) h.open_ones;
   serves = record { list = h.list; contexts_are = h.contexts_are; fed = h.fed; open_ones = refl; wanted = h.wanted };
 })
-all_given limit contexts d front (e ∷ es) back c ws join h p =
+all_given laws limit contexts d front (e ∷ es) back c ws join h p =
     let first = one contexts e c ws in
     let more = applied contexts es first.cell first.wants in
     let d1 = with_open d first.wants in
-    let g = all_given limit contexts d1 (front ++ e ∷ []) es back first.cell first.wants join (one_serves limit contexts d front (es ++ back) e c ws h p.0) p.1 in
+    let g = all_given laws limit contexts d1 (front ++ e ∷ []) es back first.cell first.wants join (one_serves laws limit contexts d front (es ++ back) e c ws h) p.1 in
     rw (← append_assoc front (e ∷ []) es) (record {
-      moves = rw marks_of-append (join limit d (marks_of 1 first.told) (marks_of 1 more.told) d1 (with_open d more.wants) (one_by limit contexts d front (es ++ back) e c ws e.proposal h refl p.0.sort) g.moves);
+      moves = rw marks_of-append (join limit d (marks_of 1 first.told) (marks_of 1 more.told) d1 (with_open d more.wants) (one_by laws limit contexts d front (es ++ back) e c ws (ending_of e.proposal c) h refl p.0.sort) g.moves);
       serves = g.serves;
     })
 
@@ -187,7 +188,7 @@ answer_move limit contexts d e front back c context query since list fed late en
   since = since;
   late = late;
   within = rw (list, length-map, length-append) (omega (arith, fed.count));
-  gives = rw (list, fed.count, past_front, fed.object) refl;
+  gives = rw (list, fed.count, past_front, fed_object limit front c fed) refl;
   ends = ends;
 }
 

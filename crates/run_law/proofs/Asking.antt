@@ -1,5 +1,5 @@
 -- A request that is asked: it opens, or ends at once.
-use Rattle.std.proofs.Common.{◌≡◌, ℕ, ◌+◌, ◌≤◌, List, [], ◌∷◌, ◌++◌, false, take, drop, map, refl, sym, ap, ◌∙◌, subst, length-append, take-append-drop, arith, leb-true}
+use Rattle.std.proofs.Common.{◌≡◌, ℕ, ◌+◌, ◌≤◌, List, [], ◌∷◌, ◌++◌, false, take, drop, map, refl, sym, ap, ◌∙◌, subst, inr, length-append, take-append-drop, arith, leb-true}
 use Rattle.std.specs.Prelude.{nat_le, not, ◌||◌}
 use Rattle.std.specs.List.{AllByRecursion}
 use Rattle.std.specs.BTreeMap.{insert_entry}
@@ -8,7 +8,7 @@ use Rattle.std.proofs.lemmas.Bool.{cond_both}
 use Rattle.std.proofs.lemmas.List.{map-append, take-take}
 use Rattle.host_ids.specs.declared.entry.Key.{Key}
 use Rattle.host_ids.specs.declared.entry.Entry.{Entry}
-use Rattle.host_ids.specs.declared.proposal.Proposal.TheVariants as proposals
+use Rattle.host_ids.specs.declared.proposal.Proposal.{Proposal}
 use Rattle.object_model.specs.declared.mark.What.{What}
 use Rattle.object_model.specs.declared.mark.What.TheVariants as whats
 use Rattle.object_model.specs.declared.mark.Mark.TheVariants as marks
@@ -120,22 +120,20 @@ opened_goes limit w d context what after r told o n m =
 
 -- ---- a proposal
 
-command_goes : (limit : ℕ) (w : World) (d : Desk) (context command : List ℕ) → Agrees limit w d → is_used w context ≡ false → Goes limit d (Run.proposed w context (proposals.Plain command) (Replica.quiet (Replica.appended (next_key w) (proposals.Plain command) w.replica)))
-command_goes limit w d context command a unused =
-    let p = proposals.Plain command in
+taken_goes : (limit : ℕ) (w : World) (d : Desk) (context : List ℕ) (p : Proposal) → Agrees limit w d → is_used w context ≡ false → Goes limit d (Run.proposed w context p (Replica.quiet (Replica.appended (next_key w) p w.replica)))
+taken_goes limit w d context p a unused =
     let what = whats.Proposes p in
     let n = asked_agrees limit w d context (asking w context what) a refl in
     let within = next_within limit w d context what a in
-    let entered : Entered (asked_with w d context what) (Replica.own_entry w.replica (next_key w) p) = record { known = within.most; sort = (within, ap (λ (r : Request). r.what) (next_is limit w d context what a)) } in
+    let entered : Entered (asked_with w d context what) (Replica.own_entry w.replica (next_key w) p) = record { known = within.most; sort = inr (within, ap (λ (r : Request). r.what) (next_is limit w d context what a)) } in
     opened_goes limit w d context what _ (Replica.appended (next_key w) p w.replica) _ (opens limit w d context what wants.Proposal w.requests.waiting a unused (p, refl) n.waiting)
     (appended_onward (Entered (asked_with w d context what)) w.replica (next_key w) p a.sound entered) refl
 
-pub proposes_goes : (limit : ℕ) (w : World) (d : Desk) (context command : List ℕ) → Agrees limit w d → is_used w context ≡ false → Goes limit d (Run.proposes w context (proposals.Plain command))
-proposes_goes limit w d context command a unused =
-    let p = proposals.Plain command in
+pub proposes_goes : (limit : ℕ) (w : World) (d : Desk) (context : List ℕ) (p : Proposal) → Agrees limit w d → is_used w context ≡ false → Goes limit d (Run.proposes w context p)
+proposes_goes limit w d context p a unused =
     cond_both (Replica.is_full w.replica || not (Replica.is_leader w.replica.role)) (Replica.tells (notes.Dropped (next_key w)) w.replica) (Replica.quiet (Replica.appended (next_key w) p w.replica)) (λ (row : Replica.Row). Goes limit d (Run.proposed w context p row))
     (λ _. dropped_goes limit w d context (whats.Proposes p) _ a unused refl)
-    (λ _. command_goes limit w d context command a unused)
+    (λ _. taken_goes limit w d context p a unused)
 
 -- ---- a read
 

@@ -1,5 +1,5 @@
 -- A step from a world that agrees with a desk, where the desk moves with it; an `apply` is such a step.
-use Rattle.std.proofs.Common.{◌≡◌, ℕ, ◌+◌, ◌-◌, ◌≤◌, List, [], ◌∷◌, ◌++◌, Bool, true, false, cond, length, take, drop, map, min, refl, sym, ap, ◌∙◌, append_assoc, length-append, length-take, take-append-drop, arith}
+use Rattle.std.proofs.Common.{◌≡◌, ℕ, ◌+◌, ◌-◌, ◌≤◌, List, [], ◌∷◌, ◌++◌, Bool, true, false, cond, length, take, drop, map, min, refl, sym, ap, ◌∙◌, inl, append_assoc, length-append, length-take, take-append-drop, arith}
 use Rattle.std.specs.List.{AllByRecursion, flat_map}
 use Rattle.std.proofs.lemmas.Bool.{cond_both}
 use Rattle.std.proofs.Math.Seq.{take-append-add}
@@ -18,6 +18,7 @@ use Rattle.run_law.proofs.Lists.{all_take, all_drop, take_front}
 use Rattle.run_law.proofs.Tables.{keys_all, due_all, not_due_all}
 use Rattle.run_law.proofs.Names.{Entered, Waits, Reading, reading_later}
 use Rattle.run_law.proofs.Replicas.{Onward, timeout_onward, save_onward}
+use Rattle.run_law.proofs.Giving.{Follows}
 use Rattle.run_law.proofs.Agree.{Agrees, length_log, onward_agrees}
 use Rattle.run_law.proofs.Joining.{growth_moves, nothing_moves, marks_of-append}
 use Rattle.run_law.proofs.Applying.{Fed, Serves, with_open, all_given, all_answered}
@@ -49,7 +50,7 @@ row_goes : (limit : ℕ) (w : World) (d : Desk) (row : Row) → Agrees limit w d
 row_goes limit w d row a o = let g = onward_agrees limit w d row.replica a o in record { desk = g.0; agrees = g.2; moves = rw (notes_marks 1 row.notes) (growth_moves limit d g.0 g.1) }
 
 blank_entered : (asked : List Request) (e : Entry) → e.key ≡ no_key → e.proposal ≡ proposals.Blank → Entered asked e
-blank_entered asked e k p = record { known = rw k (omega arith); sort = rw p tt }
+blank_entered asked e k p = record { known = rw k (omega arith); sort = inl p }
 
 pub timeout_goes : (limit : ℕ) (w : World) (d : Desk) → Agrees limit w d → Goes limit d (Run.timeout w)
 timeout_goes limit w d a = row_goes limit w d (on_timeout w.replica) a (timeout_onward (Entered d.asked) w.replica a.sound)
@@ -63,7 +64,8 @@ save_goes limit w d a = row_goes limit w d (on_save w.replica) a (save_onward (E
 pub fed_log : (limit : ℕ) (w : World) (d : Desk) → Agrees limit w d → Fed limit (take w.cell.applied w.replica.log) w.cell
 fed_log limit w d a = record {
   count = rw length-take (omega (arith, a.applied, length_log limit w d a));
-  object = a.object;
+  limit_is = a.limit_is;
+  judges = a.judges;
 }
 
 -- the world's cell and table agree with the desk, around what is applied
@@ -105,8 +107,8 @@ cut_at limit w d k a h =
       },
     )
 
-pub applies_goes : (limit : ℕ) (w : World) (d : Desk) (most : ℕ) → MovesJoin → Agrees limit w d → Goes limit d (Run.applies w (applied w.contexts (next_entries w most) w.cell w.requests.wants))
-applies_goes limit w d most join a =
+pub applies_goes : (laws : Follows) (limit : ℕ) (w : World) (d : Desk) (most : ℕ) → MovesJoin → Agrees limit w d → Goes limit d (Run.applies w (applied w.contexts (next_entries w most) w.cell w.requests.wants))
+applies_goes laws limit w d most join a =
     let n = w.cell.applied in
     let log = w.replica.log in
     let k = min most (ripe w.replica - n) in
@@ -121,7 +123,7 @@ applies_goes limit w d most join a =
     let given = applied w.contexts es w.cell w.requests.wants in
     let m = given.cell.applied in
     let d1 = with_open d given.wants in
-    let g = all_given limit w.contexts d front es back w.cell w.requests.wants join serves entered in
+    let g = all_given laws limit w.contexts d front es back w.cell w.requests.wants join serves entered in
     let keys = keys_with [] (due m w.requests.waiting) in
     let reading : AllByRecursion (Reading d.asked m) keys = keys_all (Reading d.asked m) [] (due m w.requests.waiting) tt
     (due_all (Waits d.asked) (λ r. Reading d.asked m r.key) m w.requests.waiting (λ r p l. reading_later d.asked r.front m r.key p l) a.waiting) in
@@ -141,7 +143,8 @@ applies_goes limit w d most join a =
         waiting = not_due_all (Waits d.asked) m w.requests.waiting a.waiting;
         applied = omega (arith, count, cut.1.most);
         sound = a.sound;
-        object = rw taken g.serves.fed.object;
+        limit_is = g.serves.fed.limit_is;
+        judges = rw taken g.serves.fed.judges;
       };
       moves = rw marks_of-append (join limit d (marks_of 1 given.told) (marks_of 1 after.told) d1 d2 g.moves h.0);
     }

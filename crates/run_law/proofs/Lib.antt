@@ -2,12 +2,15 @@ pub mod Lists
 pub mod Tables
 pub mod Names
 pub mod Replicas
+pub mod Giving
 pub mod Agree
 pub mod Joining
 pub mod Applying
 pub mod Going
 pub mod Asking
+pub mod Said
 pub mod Turns
+pub mod Phases
 pub mod Steps
 pub mod Others
 pub mod Running

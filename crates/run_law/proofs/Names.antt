@@ -1,5 +1,5 @@
 -- What was asked under a serial, and the entries, open requests and waiting reads that name it.
-use Rattle.std.proofs.Common.{◌≡◌, ◌≢◌, ℕ, zero, suc, ◌+◌, ◌-◌, ◌<◌, ◌≤◌, ◌==◌, List, [], ◌∷◌, ◌++◌, true, false, length, get_or, take, drop, map, refl, sym, ap, ◌∙◌, length-append, arith, inl, inr, ne_eqb}
+use Rattle.std.proofs.Common.{◌≡◌, ◌≢◌, ℕ, zero, suc, ◌+◌, ◌-◌, ◌<◌, ◌≤◌, ◌==◌, List, [], ◌∷◌, ◌++◌, true, false, length, get_or, take, drop, map, refl, sym, ap, ◌∙◌, length-append, arith, ◌⊎◌, inl, inr, ne_eqb}
 use Rattle.std.specs.Prelude.{bytes_eq, codes}
 use Rattle.std.specs.List.{AllByRecursion, list_any}
 use Rattle.std.proofs.lemmas.Option.{unwrap_or-slice_get}
@@ -38,13 +38,9 @@ pub record Within (asked : List Request) (key : Key) : Type 0 where
   pub positive : 0 < key.serial
   pub most : key.serial ≤ length asked
 
--- an entry is a blank, or a command that was asked under its key
+-- an entry is a blank, or was asked under its key
 abbrev pub IsSort : List Request → Key → Proposal → Type 0
-IsSort asked key proposals.Blank = Unit {0}
-IsSort asked key (proposals.Plain command) = Within asked key × ((request_at asked key).what ≡ whats.Proposes (proposals.Plain command))
-IsSort asked key (proposals.Session client series responded command) = ⊥
-IsSort asked key (proposals.Register client) = ⊥
-IsSort asked key (proposals.Close client) = ⊥
+IsSort asked key p = (p ≡ proposals.Blank) ⊎ (Within asked key × ((request_at asked key).what ≡ whats.Proposes p))
 
 pub record Entered (asked : List Request) (e : Entry) : Type 0 where
   pub known : e.key.serial ≤ length asked
@@ -85,11 +81,8 @@ pub within_more : (asked more : List Request) (key : Key) → Within asked key �
 within_more asked more key w = record { positive = w.positive; most = rw length-append (omega (arith, w.most)) }
 
 sort_more : (asked more : List Request) (key : Key) (p : Proposal) → IsSort asked key p → IsSort (asked ++ more) key p
-sort_more asked more key proposals.Blank s = tt
-sort_more asked more key (proposals.Plain command) s = (within_more asked more key s.0, rw (request_same asked more key s.0) s.1)
-sort_more asked more key (proposals.Session client series responded command) s = absurd s
-sort_more asked more key (proposals.Register client) s = absurd s
-sort_more asked more key (proposals.Close client) s = absurd s
+sort_more asked more key p (inl blank) = inl blank
+sort_more asked more key p (inr s) = inr (within_more asked more key s.0, rw (request_same asked more key s.0) s.1)
 
 pub entered_more : (asked more : List Request) (e : Entry) → Entered asked e → Entered (asked ++ more) e
 entered_more asked more e n = record { known = rw length-append (omega (arith, n.known)); sort = sort_more asked more e.key e.proposal n.sort }
@@ -144,14 +137,11 @@ request_is contexts asked key what e w q = request_eta (request_at asked key) (c
 
 -- an entry may stand in the decided list
 may_by : (contexts : List (List ℕ)) (asked : List Request) (key : Key) (p : Proposal) → contexts_of asked ≡ contexts → IsSort asked key p → MayStand asked (record { context = context_at contexts key.serial; proposal = p })
-may_by contexts asked key proposals.Blank e s = inl refl
-may_by contexts asked key (proposals.Plain command) e s =
+may_by contexts asked key p e (inl blank) = inl blank
+may_by contexts asked key p e (inr s) =
     let i = key.serial - 1 in
     let l : i < length asked = omega (arith, s.0.positive, s.0.most) in
-    inr ((request_at asked key).since, take i asked, drop (suc i) asked, around asked i none l ∙ ap (λ (r : Request). take i asked ++ r ∷ drop (suc i) asked) (request_is contexts asked key (whats.Proposes (proposals.Plain command)) e s.0 s.1))
-may_by contexts asked key (proposals.Session client series responded command) e s = absurd s
-may_by contexts asked key (proposals.Register client) e s = absurd s
-may_by contexts asked key (proposals.Close client) e s = absurd s
+    inr ((request_at asked key).since, take i asked, drop (suc i) asked, around asked i none l ∙ ap (λ (r : Request). take i asked ++ r ∷ drop (suc i) asked) (request_is contexts asked key (whats.Proposes p) e s.0 s.1))
 
 pub all_may : (contexts : List (List ℕ)) (asked : List Request) (es : List Entry) → contexts_of asked ≡ contexts → AllByRecursion (Entered asked) es → AllByRecursion (MayStand asked) (map (placed contexts) es)
 all_may contexts asked [] e p = tt

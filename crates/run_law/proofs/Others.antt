@@ -1,12 +1,11 @@
 -- A run tells nothing of any group but 1.
-use Rattle.std.proofs.Common.{◌≡◌, ℕ, ◌+◌, ◌==◌, List, [], ◌∷◌, ◌++◌, Bool, false, Option, Some, None, cond, length, map, refl}
+use Rattle.std.proofs.Common.{◌≡◌, ℕ, ◌==◌, List, [], ◌∷◌, ◌++◌, Bool, false, Option, Some, None, cond, map, refl}
 use Rattle.std.specs.Prelude.{nat_lt}
 use Rattle.std.proofs.lemmas.Bool.{cond_both}
 use Rattle.host_ids.specs.declared.entry.Key.{Key}
 use Rattle.host_ids.specs.declared.entry.Entry.{Entry}
 use Rattle.host_ids.specs.declared.proposal.Proposal.{Proposal}
-use Rattle.host_ids.specs.declared.proposal.Proposal.TheVariants as proposals
-use Rattle.run_model.specs.declared.script.Setup.TheVariants as setups
+use Rattle.object_model.specs.declared.mark.Ending.{Ending}
 use Rattle.run_model.specs.declared.script.HostEvent.{HostEvent}
 use Rattle.run_model.specs.declared.script.HostEvent.TheVariants as events
 use Rattle.run_model.specs.declared.told.Told.{Told}
@@ -16,14 +15,15 @@ use Rattle.run_model.specs.declared.told.Stop.{Stop}
 use Rattle.run_model.specs.declared.told.Stop.TheVariants.{Ended, Bad, Full, Spent}
 use Rattle.run_model.specs.declared.line.Line.TheVariants as lines
 use Rattle.run_model.specs.Replica
-use Rattle.run_model.specs.World.{World, Cell, start}
+use Rattle.run_model.specs.World.{World, Cell}
 use Rattle.run_model.specs.Script.{parts_of}
 use Rattle.run_model.specs.Run
 use Rattle.run_model.specs.Run.{Step, applied, answered}
 use Rattle.run_model.specs.Marks.{marks_of}
 use Rattle.run_law.proofs.Joining.{marks_of-append}
 use Rattle.run_law.proofs.Going.{notes_marks}
-use Rattle.run_law.proofs.Turns.{Between, IsDone, run_done}
+use Rattle.run_law.proofs.Turns.{Between, IsDone}
+use Rattle.run_law.proofs.Phases.{run_begins}
 
 -- the group isn't 1
 pub record IsOther (g : ℕ) : Type 0 where
@@ -38,23 +38,20 @@ both_silent g a b p q = rw (marks_of-append, p, q) refl
 
 -- ---- an apply
 
-ended_silent : (g : ℕ) (contexts : List (List ℕ)) (key : Key) (place : ℕ) (reply : List ℕ) (o : Option Want) → IsOther g → IsSilent g (Run.ended o contexts key (lines.Done key 1 place reply))
-ended_silent g contexts key place reply None n = refl
-ended_silent g contexts key place reply (Some want) n = rw n.differs refl
+ended_silent : (g : ℕ) (contexts : List (List ℕ)) (key : Key) (place : ℕ) (ending : Ending) (o : Option Want) → IsOther g → IsSilent g (Run.ended o contexts key (lines.Ended key 1 place ending))
+ended_silent g contexts key place ending None n = refl
+ended_silent g contexts key place ending (Some want) n = rw n.differs refl
 
-one_silent : (g : ℕ) (contexts : List (List ℕ)) (p : Proposal) (key : Key) (c : Cell) (ws : List (Key × Want)) → IsOther g → IsSilent g (Run.applied_by contexts p key c ws).told
-one_silent g contexts proposals.Blank key c ws n = refl
-one_silent g contexts (proposals.Plain command) key c ws n = ended_silent g contexts key (c.applied + 1) _ (Run.want_of key ws) n
-one_silent g contexts (proposals.Session client series responded command) key c ws n = refl
-one_silent g contexts (proposals.Register client) key c ws n = refl
-one_silent g contexts (proposals.Close client) key c ws n = refl
+one_silent : (g : ℕ) (contexts : List (List ℕ)) (key : Key) (c : Cell) (ws : List (Key × Want)) (o : Option Ending) → IsOther g → IsSilent g (Run.ended_with o contexts key c ws).told
+one_silent g contexts key c ws None n = refl
+one_silent g contexts key c ws (Some ending) n = ended_silent g contexts key c.applied ending (Run.want_of key ws) n
 
 applied_silent : (g : ℕ) (contexts : List (List ℕ)) (es : List Entry) (c : Cell) (ws : List (Key × Want)) → IsOther g → IsSilent g (applied contexts es c ws).told
 unfolding applied
 applied_silent g contexts [] c ws n = refl
 applied_silent g contexts (e ∷ es) c ws n =
     let first = Run.applied_by contexts e.proposal e.key c ws in
-    both_silent g first.told (applied contexts es first.cell first.wants).told (one_silent g contexts e.proposal e.key c ws n) (applied_silent g contexts es first.cell first.wants n)
+    both_silent g first.told (applied contexts es first.cell first.wants).told (one_silent g contexts e.key (Run.given e.proposal c) ws (Run.ending_of e.proposal c) n) (applied_silent g contexts es first.cell first.wants n)
 
 answer_silent : (g : ℕ) (contexts : List (List ℕ)) (c : Cell) (key : Key) (o : Option Want) → IsOther g → IsSilent g (Run.answer_told contexts c key o)
 answer_silent g contexts c key None n = refl
@@ -91,13 +88,6 @@ read_silent g w context query row n =
     by_cond g (Run.is_dropped row) _ _ (rw n.differs refl)
     (by_cond g (Run.is_reached (Run.confirmed_index row.notes) w.cell.applied) _ _ (rw n.differs refl) (rw n.differs refl))
 
-ask_silent : (g : ℕ) (w : World) (context command : List ℕ) → IsOther g → IsSilent g (Run.ask w context command).told
-ask_silent g w context command n =
-    by_cond g (Run.is_used w context) _ _ refl (by_cond g (nat_lt 512 (length command)) _ _ refl (proposed_silent g w context (proposals.Plain command) (Replica.on_local_proposal (Run.next_key w) (proposals.Plain command) w.replica) n))
-
-reads_silent : (g : ℕ) (w : World) (context query : List ℕ) → IsOther g → IsSilent g (Run.reads w context query).told
-reads_silent g w context query n = by_cond g (Run.is_used w context) _ _ refl (read_silent g w context query (Replica.on_local_read (Run.next_key w) w.replica) n)
-
 -- ---- the run
 
 abbrev Says : ℕ → Between
@@ -108,9 +98,11 @@ silence_done g n = record {
   nothing = λ w. refl;
   next = λ u v w a b p q. both_silent g a b p q;
   started = λ w host. refl;
+  refused = λ w number. refl;
+  clients = λ w clients. refl;
   event = λ w event. event_silent g w event n;
-  ask = λ w context command. ask_silent g w context command n;
-  read = λ w context query. reads_silent g w context query n;
+  propose = λ w context p unused. proposed_silent g w context p (Replica.on_local_proposal (Run.next_key w) p w.replica) n;
+  read = λ w context query unused. read_silent g w context query (Replica.on_local_read (Run.next_key w) w.replica) n;
 }
 
 entries_silent : (g : ℕ) (w : World) (es : List Entry) → IsOther g → IsSilent g (map (Run.entry_told w) es)
@@ -125,7 +117,7 @@ last_silent g w (Spent line) n = refl
 
 -- the lines before the last ones, and all of them
 pub so_far_silent : (g : ℕ) (text : List ℕ) → IsOther g → IsSilent g (Run.outcome_of text).told
-so_far_silent g text n = run_done (Says g) (silence_done g n) setups.Nothing start 0 0 (parts_of text)
+so_far_silent g text n = (run_begins (Says g) (silence_done g n) 0 0 (parts_of text)).runs
 
 pub all_silent : (g : ℕ) (text : List ℕ) → IsOther g → IsSilent g (Run.all_told (Run.outcome_of text))
 all_silent g text n =

@@ -5,28 +5,36 @@ use Rattle.host_ids.specs.declared.entry.Entry.{Entry}
 use Rattle.object_model.specs.declared.mark.Placed.{Placed}
 use Rattle.object_model.specs.declared.mark.Mark.{Mark}
 use Rattle.object_model.specs.declared.mark.Mark.TheVariants as marks
-use Rattle.object_model.specs.Mark.{entries}
 use Rattle.object_model.specs.Legal.{Legal, EachGood}
 use Rattle.object_model.specs.Desk.{empty_desk, shown, MovesAreLegal, MovesShowNothing, MovesJoin}
-use Rattle.run_model.specs.declared.script.Setup.TheVariants as setups
 use Rattle.run_model.specs.declared.told.Stop.{Stop}
 use Rattle.run_model.specs.declared.told.Stop.TheVariants.{Ended}
 use Rattle.run_model.specs.declared.line.Line.TheVariants as lines
-use Rattle.run_model.specs.World.{World, start}
+use Rattle.run_model.specs.World.{World}
 use Rattle.run_model.specs.Script.{parts_of}
 use Rattle.run_model.specs.Run
 use Rattle.run_model.specs.Run.{Outcome, outcome_of, ending, all_told, entry_told, decided_entries}
 use Rattle.run_model.specs.Marks.{marks_of}
-use Rattle.run_law.specs.Lawful.{session_limit, placed, decided, RunsAreLegal, RunsAreLegalSoFar, IsLegalAtEnd, IsLegalSoFar}
-use Rattle.run_law.proofs.Agree.{start_agrees}
+use Rattle.run_law.specs.Lawful.{limit_of, placed, RunsAreLegal, RunsAreLegalSoFar, IsLegalAtEnd, IsLegalSoFar}
+use Rattle.run_law.proofs.Agree.{begin_agrees}
 use Rattle.run_law.proofs.Joining.{marks_of-append}
 use Rattle.run_law.proofs.Going.{Goes}
-use Rattle.run_law.proofs.Turns.{run_done}
+use Rattle.run_law.proofs.Giving.{Follows}
+use Rattle.run_law.proofs.Phases.{run_begins}
 use Rattle.run_law.proofs.Steps.{Moved, moves_done}
 use Rattle.run_law.proofs.Others.{IsOther, so_far_silent, all_silent}
 
-outcome_goes : (limit : ℕ) (text : List ℕ) → MovesJoin → Goes limit empty_desk (record { world = (outcome_of text).world; told = (outcome_of text).told })
-outcome_goes limit text join = run_done (Moved limit) (moves_done limit join) setups.Nothing start 0 0 (parts_of text) empty_desk (start_agrees limit)
+-- a run, as moves under the limit of sessions of the world that it has reached
+pub record Ran (o : Outcome) : Type 0 where
+  pub limit : ℕ
+  pub same : limit_of o.world ≡ limit
+  pub goes : Goes limit empty_desk (record { world = o.world; told = o.told })
+
+outcome_ran : (laws : Follows) (text : List ℕ) → MovesJoin → Ran (outcome_of text)
+outcome_ran laws text join =
+    let b = run_begins Moved (moves_done laws join) 0 0 (parts_of text) in
+    let g = b.runs b.limit empty_desk (begin_agrees b.limit b.positive) in
+    record { limit = b.limit; same = g.agrees.limit_is; goes = g }
 
 -- ---- the last lines show the list
 
@@ -46,17 +54,17 @@ ended_marks o e =
 -- ---- the laws
 
 -- the laws of group 1
-ours_so_far : (limit : ℕ) (text : List ℕ) → MovesAreLegal → MovesJoin → Legal limit (decided 1 (outcome_of text).world) (marks_of 1 (outcome_of text).told)
-ours_so_far limit text legal join =
-    let r = outcome_goes limit text join in
-    rw (← r.agrees.decided) (legal limit (marks_of 1 (outcome_of text).told) r.desk r.moves).0
+ours_so_far : (laws : Follows) (text : List ℕ) → MovesAreLegal → MovesJoin → IsLegalSoFar 1 text
+ours_so_far laws text legal join =
+    let r = outcome_ran laws text join in
+    rw (r.same, ← r.goes.agrees.decided) (legal r.limit (marks_of 1 (outcome_of text).told) r.goes.desk r.goes.moves).0
 
-ours_at_end : (limit : ℕ) (text : List ℕ) → MovesAreLegal → MovesShowNothing → MovesJoin → (outcome_of text).stop ≡ Ended → Legal limit (entries (marks_of 1 (all_told (outcome_of text)))) (marks_of 1 (all_told (outcome_of text)))
-ours_at_end limit text legal shows join e =
+ours_at_end : (laws : Follows) (text : List ℕ) → MovesAreLegal → MovesShowNothing → MovesJoin → (outcome_of text).stop ≡ Ended → IsLegalAtEnd 1 text
+ours_at_end laws text legal shows join e =
     let o = outcome_of text in
-    let r = outcome_goes limit text join in
-    let whole : marks_of 1 (all_told o) ≡ marks_of 1 o.told ++ shown r.desk.decided = ended_marks o e ∙ ap (λ (l : List Placed). marks_of 1 o.told ++ shown l) (sym r.agrees.decided) in
-    rw (whole, shows limit empty_desk (marks_of 1 o.told) r.desk r.moves) (legal limit (marks_of 1 o.told) r.desk r.moves).1
+    let r = outcome_ran laws text join in
+    let whole : marks_of 1 (all_told o) ≡ marks_of 1 o.told ++ shown r.goes.desk.decided = ended_marks o e ∙ ap (λ (l : List Placed). marks_of 1 o.told ++ shown l) (sym r.goes.agrees.decided) in
+    rw (r.same, whole, shows r.limit empty_desk (marks_of 1 o.told) r.goes.desk r.goes.moves) (legal r.limit (marks_of 1 o.told) r.goes.desk r.goes.moves).1
 
 -- no marks are legal by no list
 nothing_legal : (limit : ℕ) → Legal limit [] []
@@ -68,14 +76,14 @@ ours_or_not : (P : ℕ → Type 0) (g : ℕ) → P 1 → (IsOther g → (g == 1)
 ours_or_not P g p q (inl e) = subst P (sym e) p
 ours_or_not P g p q (inr n) = q (record { differs = ne_eqb 1 g (λ e. n (sym e)) }) (ne_eqb g 1 n)
 
-pub all_so_far : MovesAreLegal → MovesJoin → RunsAreLegalSoFar
-all_so_far legal join text g =
-    ours_or_not (λ (g : ℕ). IsLegalSoFar g text) g (ours_so_far session_limit text legal join)
-    (λ n k. rw (k, so_far_silent g text n) (nothing_legal session_limit))
+pub all_so_far : (laws : Follows) → MovesAreLegal → MovesJoin → RunsAreLegalSoFar
+all_so_far laws legal join text g =
+    ours_or_not (λ (g : ℕ). IsLegalSoFar g text) g (ours_so_far laws text legal join)
+    (λ n k. rw (k, so_far_silent g text n) (nothing_legal (limit_of (outcome_of text).world)))
     (cases_eq g 1)
 
-pub all_at_end : MovesAreLegal → MovesShowNothing → MovesJoin → RunsAreLegal
-all_at_end legal shows join text g e =
-    ours_or_not (λ (g : ℕ). IsLegalAtEnd g text) g (ours_at_end session_limit text legal shows join e)
-    (λ n k. rw (all_silent g text n) (nothing_legal session_limit))
+pub all_at_end : (laws : Follows) → MovesAreLegal → MovesShowNothing → MovesJoin → RunsAreLegal
+all_at_end laws legal shows join text g e =
+    ours_or_not (λ (g : ℕ). IsLegalAtEnd g text) g (ours_at_end laws text legal shows join e)
+    (λ n k. rw (all_silent g text n) (nothing_legal (limit_of (outcome_of text).world)))
     (cases_eq g 1)

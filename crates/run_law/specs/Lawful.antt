@@ -8,9 +8,9 @@ use Rattle.run_model.specs.World.{World}
 use Rattle.run_model.specs.Run.{context_at, decided_entries, outcome_of, all_told}
 use Rattle.run_model.specs.Marks.{marks_of}
 
--- a group without a limit of its own has this one of sessions
-abbrev pub session_limit : ℕ
-session_limit = 4096
+-- how many sessions may stand in the group of a world
+abbrev pub limit_of : World → ℕ
+limit_of w = w.cell.sessions.limit
 
 -- an entry with the context of its request
 abbrev pub placed : List (List ℕ) → Entry → Placed
@@ -22,11 +22,11 @@ decided g w = if g == 1 then map (placed w.contexts) (decided_entries w) else []
 
 -- the whole output of a run over this text is legal for the group by the entries that it shows
 abbrev pub IsLegalAtEnd : ℕ → List ℕ → Type 0
-IsLegalAtEnd g text = IsLegalOutput session_limit (marks_of g (all_told (outcome_of text)))
+IsLegalAtEnd g text = IsLegalOutput (limit_of (outcome_of text).world) (marks_of g (all_told (outcome_of text)))
 
 -- what a run over this text tells before its last lines is legal for the group by the decided list of the world that it has reached
 abbrev pub IsLegalSoFar : ℕ → List ℕ → Type 0
-IsLegalSoFar g text = Legal session_limit (decided g (outcome_of text).world) (marks_of g (outcome_of text).told)
+IsLegalSoFar g text = Legal (limit_of (outcome_of text).world) (decided g (outcome_of text).world) (marks_of g (outcome_of text).told)
 
 -- every run that comes to its end is legal for every group
 abbrev pub RunsAreLegal : Type 0

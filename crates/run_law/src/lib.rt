@@ -6,6 +6,7 @@ ghost use Rattle.run_law.specs.Lawful.{RunsAreLegal, RunsAreLegalSoFar};
 ghost use Rattle.run_law.specs.Complete.{ScriptsEnd};
 
 use object_model::moves_are_legal;
+use session_lru::{calls_follow, others_leave};
 
 /// Whatever text a run is over, its output is legal for each group: at the end of its script by
 /// the entries that it shows, and before that by the decided list of the world that it has reached.
@@ -15,6 +16,8 @@ pub fn runs_are_legal()
     ensures so_far { RunsAreLegalSoFar }
 {
     moves_are_legal();
+    calls_follow();
+    others_leave();
 }
 
 /// A run over a script whose lines up to the word `end` are lines of the grammar, each where it may

@@ -2,7 +2,6 @@
 use Rattle.std.specs.Prelude.{ℕ, ◌==◌, List, [], ◌∷◌, if◌then◌else◌}
 use Rattle.std.specs.List.{flat_map}
 use Rattle.object_model.specs.declared.mark.What.TheVariants as whats
-use Rattle.object_model.specs.declared.mark.Ending.TheVariants as endings
 use Rattle.object_model.specs.declared.mark.Mark.{Mark}
 use Rattle.object_model.specs.declared.mark.Mark.TheVariants as marks
 use Rattle.run_model.specs.declared.line.Line.{Line}
@@ -19,7 +18,7 @@ line_marks g context lines.Idle = []
 line_marks g context (lines.Refused number) = []
 line_marks g context (lines.Ask key group proposal) = of_group g group (marks.Asks context (whats.Proposes proposal))
 line_marks g context (lines.AskRead key group query) = of_group g group (marks.Asks context (whats.Queries query))
-line_marks g context (lines.Done key group place reply) = of_group g group (marks.Ends context place (endings.Done reply))
+line_marks g context (lines.Ended key group place ending) = of_group g group (marks.Ends context place ending)
 line_marks g context (lines.Read key group front answer) = of_group g group (marks.Reads context front answer)
 line_marks g context (lines.Dropped key group) = of_group g group (marks.Leaves context)
 line_marks g context (lines.Entry group entry) = of_group g group (marks.Shows (record { context = context; proposal = entry.proposal }))

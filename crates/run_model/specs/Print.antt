@@ -2,6 +2,8 @@
 use Rattle.std.specs.Prelude.{ℕ, List, [], ◌∷◌, ◌++◌, ◌&&◌, codes, decimal, map, nat_le, if◌then◌else◌}
 use Rattle.host_ids.specs.declared.proposal.Proposal.{Proposal}
 use Rattle.host_ids.specs.declared.proposal.Proposal.TheVariants as proposals
+use Rattle.object_model.specs.declared.mark.Ending.{Ending}
+use Rattle.object_model.specs.declared.mark.Ending.TheVariants as endings
 use Rattle.run_model.specs.declared.limit.Limit.{Limit}
 use Rattle.run_model.specs.declared.limit.Limit.TheVariants as limits
 use Rattle.run_model.specs.declared.line.Line.{Line}
@@ -27,6 +29,13 @@ proposal_text (proposals.Session client series responded command) = codes "call"
 proposal_text (proposals.Register client) = codes "register" · decimal client
 proposal_text (proposals.Close client) = codes "close" · decimal client
 
+abbrev pub ending_text : List ℕ → ℕ → Ending → List ℕ
+ending_text context place (endings.Done reply) = codes "done" · context · decimal place · shown_text reply
+ending_text context place endings.Rejected = codes "rejected" · context · decimal place
+ending_text context place endings.Responded = codes "responded" · context · decimal place
+ending_text context place endings.Registered = codes "registered" · context · decimal place
+ending_text context place endings.Closed = codes "closed" · context · decimal place
+
 abbrev pub limit_text : Limit → List ℕ
 limit_text limits.Entries = codes "limit entries 200000"
 limit_text limits.Script = codes "limit script 67108864"
@@ -38,7 +47,7 @@ line_text context lines.Idle = codes "idle"
 line_text context (lines.Refused number) = codes "refused" · decimal number
 line_text context (lines.Ask key group proposal) = codes "ask" · context · decimal group · proposal_text proposal
 line_text context (lines.AskRead key group query) = codes "ask" · context · decimal group · codes "read" · shown_text query
-line_text context (lines.Done key group place reply) = codes "done" · context · decimal place · shown_text reply
+line_text context (lines.Ended key group place ending) = ending_text context place ending
 line_text context (lines.Read key group front answer) = codes "read" · context · decimal front · shown_text answer
 line_text context (lines.Dropped key group) = codes "dropped" · context
 line_text context (lines.Entry group entry) = codes "entry" · decimal group · decimal entry.index · context · proposal_text entry.proposal

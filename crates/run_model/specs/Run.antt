@@ -1,5 +1,5 @@
 -- A run: what each line of a script does to the world, and the lines that it prints. Source: this project's own.
-use Rattle.std.specs.Prelude.{ℕ, zero, suc, ◌+◌, ◌-◌, ◌==◌, List, [], ◌∷◌, ◌++◌, Bool, true, false, ◌||◌, Option, Some, None, nat_lt, nat_le, length, take, drop, min, map, slice_get, unwrap_or, codes, bytes_eq, if◌then◌else◌}
+use Rattle.std.specs.Prelude.{ℕ, zero, suc, ◌+◌, ◌-◌, ◌==◌, List, [], ◌∷◌, ◌++◌, Bool, true, false, ◌||◌, Option, Some, None, nat_lt, nat_le, length, take, drop, min, map, slice_get, unwrap_or, is_some, codes, bytes_eq, if◌then◌else◌}
 use Rattle.std.specs.List.{list_any, flat_map}
 use Rattle.std.specs.BTreeMap.{insert_entry, is_at}
 use Rattle.std.specs.BTreeSet.{insert_key}
@@ -8,7 +8,15 @@ use Rattle.host_ids.specs.declared.entry.Entry.{Entry}
 use Rattle.host_ids.specs.declared.entry.Key.{Key}
 use Rattle.host_ids.specs.declared.proposal.Proposal.{Proposal}
 use Rattle.host_ids.specs.declared.proposal.Proposal.TheVariants as proposals
-use Rattle.object_model.specs.Object.{after, answer}
+use Rattle.host_ids.specs.declared.verdict.Verdict.{Verdict}
+use Rattle.host_ids.specs.declared.verdict.Verdict.TheVariants as verdicts
+use Rattle.object_model.specs.declared.mark.Ending.{Ending}
+use Rattle.object_model.specs.Object.{answer, key_order as text_order}
+use Rattle.object_model.specs.Sequence.{does_act, effect_of, ending_by}
+use Rattle.session_lru.specs.Table.{Table}
+use Rattle.session_lru.specs.Calls.{session_of, register_verdict, registered, close_verdict, closed, admit_verdict}
+use Rattle.session_lru.specs.Follow.{commanded}
+use Rattle.run_model.specs.declared.client.ClientSession.{ClientSession}
 use Rattle.run_model.specs.declared.script.ScriptLine.{ScriptLine}
 use Rattle.run_model.specs.declared.script.ScriptLine.TheVariants as script
 use Rattle.run_model.specs.declared.script.Setup.{Setup}
@@ -28,9 +36,9 @@ use Rattle.run_model.specs.declared.told.Waiting.{Waiting}
 use Rattle.run_model.specs.declared.told.Stop.{Stop}
 use Rattle.run_model.specs.declared.told.Stop.TheVariants.{Ended, Bad, Full, Spent}
 use Rattle.run_model.specs.declared.replica.Replica.{Replica}
-use Rattle.run_model.specs.Replica.{Row, on_timeout, on_save, on_local_proposal, on_local_read, ripe, last, is_changed, is_pending}
-use Rattle.run_model.specs.World.{Cell, Open, World, start, key_order, waiting_order}
-use Rattle.run_model.specs.Script.{read_line, setup_after, is_end, parts_of}
+use Rattle.run_model.specs.Replica.{Row, fresh, on_timeout, on_save, on_local_proposal, on_local_read, ripe, last, is_changed, is_pending}
+use Rattle.run_model.specs.World.{Cell, Open, World, start, new_cell, most_sessions, key_order, waiting_order}
+use Rattle.run_model.specs.Script.{read_line, setup_after, is_end, parts_of, most_series}
 use Rattle.run_model.specs.Print.{print_line}
 
 -- ---- lines with the contexts that they show
@@ -130,11 +138,76 @@ proposes w context p = proposed w context p (on_local_proposal (next_key w) p w.
 abbrev pub is_used : World → List ℕ → Bool
 is_used w context = list_any (bytes_eq context) w.contexts
 
-abbrev pub ask : World → List ℕ → List ℕ → Step
-ask w context command =
+-- ---- sessions
+
+-- the session of a name
+abbrev pub client_at : World → List ℕ → Option ClientSession
+client_at w name = lookup (is_at (text_order name)) w.clients
+
+abbrev pub with_client : World → List ℕ → ClientSession → World
+with_client w name s = record w { clients = insert_entry text_order w.clients name s }
+
+-- a session that begins with series 1
+abbrev pub new_client : ℕ → ClientSession
+new_client client = record { group = 1; client = client; series = 1; responded = 0; outstanding = None }
+
+abbrev pub register : World → List ℕ → List ℕ → ℕ → Step
+register w context name client =
+    if is_used w context then tells w (lines.Refused 5)
+    else (if is_some (client_at w name) then tells w (lines.Refused 6)
+    else proposes (with_client w name (new_client client)) context (proposals.Register client))
+
+-- the command of a session's series
+abbrev pub command_of_client : ClientSession → List ℕ → Proposal
+command_of_client s command = proposals.Session s.client s.series s.responded command
+
+abbrev pub call_by : Option ClientSession → World → List ℕ → List ℕ → List ℕ → Step
+call_by None w context name command = tells w (lines.Refused 6)
+call_by (Some s) w context name command =
+    if is_some s.outstanding then tells w (lines.Refused 7)
+    else (if nat_lt 512 (length command) then tells w (lines.Refused 14)
+    else proposes (with_client w name (record s { outstanding = Some command })) context (command_of_client s command))
+
+abbrev pub call : World → List ℕ → List ℕ → List ℕ → Step
+call w context name command = if is_used w context then tells w (lines.Refused 5) else call_by (client_at w name) w context name command
+
+abbrev pub repeat_by : ClientSession → Option (List ℕ) → World → List ℕ → Step
+repeat_by s None w context = tells w (lines.Refused 7)
+repeat_by s (Some command) w context = proposes w context (command_of_client s command)
+
+abbrev pub again_by : Option ClientSession → World → List ℕ → Step
+again_by None w context = tells w (lines.Refused 6)
+again_by (Some s) w context = repeat_by s s.outstanding w context
+
+abbrev pub again : World → List ℕ → List ℕ → Step
+again w context name = if is_used w context then tells w (lines.Refused 5) else again_by (client_at w name) w context
+
+-- the series is responded and the next one begins; no script is so long that the greatest is passed
+abbrev pub next_series : ClientSession → ClientSession
+next_series s = record s { series = min (s.series + 1) most_series; responded = s.series; outstanding = None }
+
+abbrev pub completed_by : Option ClientSession → World → List ℕ → Step
+completed_by None w name = tells w (lines.Refused 6)
+completed_by (Some s) w name = if is_some s.outstanding then quiet (with_client w name (next_series s)) else tells w (lines.Refused 7)
+
+abbrev pub completed : World → List ℕ → Step
+completed w name = completed_by (client_at w name) w name
+
+abbrev pub close_by : Option ClientSession → World → List ℕ → Step
+close_by None w context = tells w (lines.Refused 6)
+close_by (Some s) w context = if is_some s.outstanding then tells w (lines.Refused 7) else proposes w context (proposals.Close s.client)
+
+abbrev pub close : World → List ℕ → List ℕ → Step
+close w context name = if is_used w context then tells w (lines.Refused 5) else close_by (client_at w name) w context
+
+-- a command that is asked as this proposal
+abbrev pub asks : World → List ℕ → List ℕ → Proposal → Step
+asks w context command p =
     if is_used w context then tells w (lines.Refused 5)
     else (if nat_lt 512 (length command) then tells w (lines.Refused 14)
-    else proposes w context (proposals.Plain command))
+    else proposes w context p)
+
+-- ---- reads
 
 -- the line of a read that is answered now
 abbrev pub answer_line : Cell → Key → List ℕ → Line
@@ -184,20 +257,42 @@ pub record Applied : Type 0 where
   pub wants : List (Key × Want)
   pub told : List Told
 
-abbrev pub passed : Cell → List (Key × Want) → Applied
-passed c wants = record { cell = record c { applied = c.applied + 1 }; wants = wants; told = [] }
+-- the verdict of a proposal by the sessions
+abbrev pub verdict_by : Proposal → Table → Verdict
+verdict_by proposals.Blank t = verdicts.Nothing
+verdict_by (proposals.Plain command) t = verdicts.Acts
+verdict_by (proposals.Session client series responded command) t = admit_verdict (session_of client t) series responded
+verdict_by (proposals.Register client) t = register_verdict (session_of client t)
+verdict_by (proposals.Close client) t = close_verdict (session_of client t)
 
--- an entry of the log is given to the object: until sessions are built, a command outside of them alone changes it
-abbrev pub applied_by : List (List ℕ) → Proposal → Key → Cell → List (Key × Want) → Applied
-applied_by contexts proposals.Blank key c wants = passed c wants
-applied_by contexts (proposals.Plain command) key c wants = record {
-  cell = record { applied = c.applied + 1; pairs = (after c.pairs command).pairs };
-  wants = without key wants;
-  told = ended (want_of key wants) contexts key (lines.Done key 1 (c.applied + 1) (after c.pairs command).reply);
+-- the sessions after a proposal, which has this reply where it acts
+abbrev pub sessions_after : Proposal → List ℕ → Table → Table
+sessions_after proposals.Blank reply t = t
+sessions_after (proposals.Plain command) reply t = t
+sessions_after (proposals.Session client series responded command) reply t = commanded client series responded reply t
+sessions_after (proposals.Register client) reply t = registered client (session_of client t) t
+sessions_after (proposals.Close client) reply t = closed client t
+
+-- a proposal is given to the cell: the sessions judge it, and the object is changed where it acts
+abbrev pub given : Proposal → Cell → Cell
+given p c = record {
+  applied = c.applied + 1;
+  sessions = sessions_after p (effect_of p c.pairs).reply c.sessions;
+  pairs = if does_act (verdict_by p c.sessions) then (effect_of p c.pairs).pairs else c.pairs;
 }
-applied_by contexts (proposals.Session client series responded command) key c wants = passed c wants
-applied_by contexts (proposals.Register client) key c wants = passed c wants
-applied_by contexts (proposals.Close client) key c wants = passed c wants
+
+-- how the request of a proposal ends that is given to the cell
+abbrev pub ending_of : Proposal → Cell → Option Ending
+ending_of p c = ending_by (verdict_by p c.sessions) p c.pairs
+
+-- the request of an entry ends, where it is open
+abbrev pub ended_with : Option Ending → List (List ℕ) → Key → Cell → List (Key × Want) → Applied
+ended_with None contexts key c wants = record { cell = c; wants = wants; told = [] }
+ended_with (Some ending) contexts key c wants = record { cell = c; wants = without key wants; told = ended (want_of key wants) contexts key (lines.Ended key 1 c.applied ending) }
+
+-- an entry of the log is given to the cell
+abbrev pub applied_by : List (List ℕ) → Proposal → Key → Cell → List (Key × Want) → Applied
+applied_by contexts p key c wants = ended_with (ending_of p c) contexts key (given p c) wants
 
 unfoldable pub applied : List (List ℕ) → List Entry → Cell → List (Key × Want) → Applied
 applied contexts [] c wants = record { cell = c; wants = wants; told = [] }
@@ -340,15 +435,25 @@ settle (suc rounds) size w = where_busy (is_busy w) w (λ v. then_turn (round si
 abbrev pub most_rounds : ℕ
 most_rounds = 64
 
+-- a group is made with its limit of sessions: a new replica and a new cell
+abbrev pub grouped : Option ℕ → World → World
+grouped limit w = record w { replica = fresh; cell = new_cell (unwrap_or limit most_sessions) }
+
 -- a line, where the lines that were read have so many bytes with it
 unfoldable pub turn : ScriptLine → ℕ → World → Turn
 turn script.Skipped size w = whole (quiet w)
 turn script.End size w = whole (quiet w)
 turn (script.Host host) size w = whole (tells w (lines.Started host 1))
-turn (script.Group group kind roster limit) size w = whole (quiet w)
+turn (script.Group group kind roster limit) size w = whole (quiet (grouped limit w))
 turn (script.Event host event) size w = whole (event_step event w)
-turn (script.Ask host group context command) size w = whole (ask w context command)
+turn (script.Ask host group context command) size w = whole (asks w context command (proposals.Plain command))
 turn (script.Read host group context query) size w = whole (reads w context query)
+turn (script.Register host group context session client) size w = whole (register w context session client)
+turn (script.Call host context session command) size w = whole (call w context session command)
+turn (script.Again host context session) size w = whole (again w context session)
+turn (script.Completed session) size w = whole (completed w session)
+turn (script.Close host context session) size w = whole (close w context session)
+turn (script.Raw host group context client series responded command) size w = whole (asks w context command (proposals.Session client series responded command))
 turn (script.Settle group) size w = settle most_rounds size w
 
 -- ---- the run

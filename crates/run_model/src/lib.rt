@@ -2,6 +2,7 @@
 //! their bytes. The definitions stand in `specs`; the types here are their records.
 #![tactic(auto)]
 
+mod client;
 mod laws;
 mod limit;
 mod line;
@@ -9,6 +10,7 @@ mod replica;
 mod script;
 mod told;
 
+pub use client::ClientSession;
 pub use laws::{settled_run, worked_run};
 pub use limit::Limit;
 pub use line::Line;

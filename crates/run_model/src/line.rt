@@ -1,5 +1,6 @@
 use crate::limit::Limit;
 use host_ids::{Entry, Key, Proposal, Text};
+use object_model::Ending;
 
 /// A line of the output.
 ///
@@ -48,16 +49,16 @@ pub enum Line {
         /// The query.
         query: Text,
     },
-    /// A command was applied.
-    Done {
+    /// A request whose proposal was decided ends.
+    Ended {
         /// The request.
         key: Key,
         /// The group.
         group: u8,
-        /// The command's place in the group's list, from 1.
+        /// The proposal's place in the group's list, from 1.
         place: u64,
-        /// The reply.
-        reply: Text,
+        /// How it ends.
+        ending: Ending,
     },
     /// A read is answered.
     Read {

@@ -86,6 +86,70 @@ pub enum ScriptLine {
         /// The query.
         query: Text,
     },
+    /// Makes a session and proposes its registration.
+    Register {
+        /// The host that is asked.
+        host: u8,
+        /// The group.
+        group: u8,
+        /// The request's context.
+        context: Text,
+        /// The session's name.
+        session: Text,
+        /// The client, 1 to 2^64-1.
+        client: u64,
+    },
+    /// Proposes a command with the series of a session, which is then outstanding.
+    Call {
+        /// The host that is asked.
+        host: u8,
+        /// The request's context.
+        context: Text,
+        /// The session's name.
+        session: Text,
+        /// The command.
+        command: Text,
+    },
+    /// Proposes the outstanding series and command of a session again.
+    Again {
+        /// The host that is asked.
+        host: u8,
+        /// The request's context.
+        context: Text,
+        /// The session's name.
+        session: Text,
+    },
+    /// The reply of a session's outstanding series was had.
+    Completed {
+        /// The session's name.
+        session: Text,
+    },
+    /// Proposes the close of a session's client.
+    Close {
+        /// The host that is asked.
+        host: u8,
+        /// The request's context.
+        context: Text,
+        /// The session's name.
+        session: Text,
+    },
+    /// Proposes a command with these numbers.
+    Raw {
+        /// The host that is asked.
+        host: u8,
+        /// The group.
+        group: u8,
+        /// The request's context.
+        context: Text,
+        /// The client, 1 to 2^64-1.
+        client: u64,
+        /// The series, 1 to 2^64-3.
+        series: u64,
+        /// The responded value, 0 to 2^64-3.
+        responded: u64,
+        /// The command.
+        command: Text,
+    },
     /// Saves, delivers and applies round after round, until there is nothing to do.
     Settle {
         /// The group.

@@ -1,3 +1,4 @@
+pub mod Fits
 pub mod Rows
 pub mod Settles
 pub mod Insert

@@ -104,3 +104,11 @@ cut_here left_old left old now p held script done u f s b = record {
   written = u.written;
   reached = ends done (run_on p held) (outcome_of script) p.world _ (rw (append-nil held, append-nil script) at (u.ahead [])) (at_last p.setup p.world p.lines p.size held b f s);
 }
+
+-- given up before anything was taken
+pub nothing_done : (left old : Option (List ℕ)) → GivenUp left left old old
+nothing_done left old = record {
+  script = [];
+  taken = record { taken = Consumes-none left; few = omega arith };
+  front = λ more. ([], text_of (outcome_of more).told, refl, Appends-none old);
+}

@@ -3,4 +3,4 @@ use Rattle.script_run.specs.declared.cell.Cell.{Cell}
 use Rattle.run_model.specs.World as world
 
 abbrev pub cell_of : Cell → world.Cell
-cell_of c = record { applied = c.applied; pairs = c.machine }
+cell_of c = record { applied = c.applied; sessions = c.sessions; pairs = c.machine }

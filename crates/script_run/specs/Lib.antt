@@ -1,3 +1,4 @@
+pub mod Fit
 pub mod Index
 pub mod Host
 pub mod Cell

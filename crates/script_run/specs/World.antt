@@ -7,7 +7,7 @@ use Rattle.script_run.specs.declared.host.Host.{Host}
 use Rattle.script_run.specs.Cell.{cell_of}
 
 abbrev pub world_of : Host → World
-world_of h = record { replica = h.replica; cell = cell_of h.cell; contexts = h.contexts; requests = h.requests }
+world_of h = record { replica = h.replica; cell = cell_of h.cell; contexts = h.contexts; requests = h.requests; clients = h.clients }
 
 -- what a read that is confirmed at an index prints behind its `ask` line
 abbrev pub read_after : World → List ℕ → List ℕ → ℕ → List Told

@@ -1,19 +1,39 @@
-ghost use Rattle.std.specs.Prelude.{◌≡◌, ◌++◌, ◌+◌, ◌<◌, ◌^◌, [], ◌∷◌, IfOk, OnOk, length};
-ghost use Rattle.run_model.specs.Run.{answer_line, answer_told, answered, applied, applied_by, bare, ended, shows, want_of, without};
+ghost use Rattle.std.specs.Prelude.{◌≡◌, ◌++◌, ◌+◌, ◌<◌, ◌≤◌, ◌^◌, [], ◌∷◌, true, IfOk, OnOk, length};
+ghost use Rattle.run_model.specs.Run.{answer_line, answer_told, answered, applied, applied_by, bare, ended, ending_of, given, shows, want_of, without};
 ghost use Rattle.script_run.specs.Cell.{cell_of};
+ghost use Rattle.script_run.specs.Fit.{are_fit, are_fit_numbers, is_fit};
 
 use crate::contexts::Contexts;
 use crate::requests::Requests;
-use host_ids::{Entry, Key, NoMemory, Proposal, Text};
+use host_ids::{Entry, Key, NoMemory, Proposal, Text, Verdict};
 use kv_object::Kv;
+use object_model::Ending;
 use run_model::{Line, Told, Tolds, Want};
+use session_lru::SessionTable;
 use std::alloc::Global;
 
-/// The object, and how many entries it was given.
+/// The sessions and the object, and how many entries they were given.
 #[derive(Drop)]
 pub struct Cell {
     pub applied: u64,
+    pub sessions: SessionTable,
     pub machine: Kv,
+}
+
+impl Cell {
+    ghost use Rattle.run_model.specs.World.{new_cell};
+
+    /// A cell without sessions and keys, in which at most `limit`, 1 to 4,096, sessions may stand.
+    pub fn new(alloc: Global, limit: u32) -> Result<Cell, NoMemory>
+        requires { (1 ≤ limit) × (limit ≤ 4096) }
+        ensures { IfOk result (λ cell. cell_of cell ≡ new_cell limit) }
+    {
+        Ok(Cell {
+            applied: 0,
+            sessions: SessionTable::new(alloc, limit)?,
+            machine: Kv::empty(alloc),
+        })
+    }
 }
 
 /// Tells a line that shows no context.
@@ -32,33 +52,87 @@ pub fn tell_of(contexts: &Contexts, key: Key, line: Line, out: &mut Tolds) -> Re
     out.push(Told { context, line })
 }
 
-/// Ends the request of a command, where it is open.
-fn end_command(
+/// Ends the request of an entry, where it is open.
+fn end_request(
     contexts: &Contexts,
     key: Key,
     place: u64,
-    reply: Text,
+    ending: Ending,
     requests: &mut Requests,
     out: &mut Tolds,
 ) -> Result<(), NoMemory>
     ensures requests { OnOk result (requests.new ≡ record requests.old { wants = without key requests.old.wants }) }
-    ensures told { OnOk result (out.new ≡ out.old ++ ended (want_of key requests.old.wants) contexts.now key (Line.Done key 1 place reply)) }
+    ensures told { OnOk result (out.new ≡ out.old ++ ended (want_of key requests.old.wants) contexts.now key (Line.Ended key 1 place ending)) }
 {
     match requests.leave(key) {
         None => Ok(()),
         Some(_) => {
-            let line = Line::Done {
+            let line = Line::Ended {
                 key,
                 group: 1,
                 place,
-                reply,
+                ending,
             };
             tell_of(contexts, key, line, out)
         }
     }
 }
 
-/// Gives an entry to the object.
+/// Gives a command of a client to the sessions, and to the object where it acts. Answers how its
+/// request ends.
+fn command(
+    cell: &mut Cell,
+    client: u64,
+    series: u64,
+    responded: u64,
+    command: &Text,
+) -> Result<Option<Ending>, NoMemory>
+    requires { are_fit_numbers client series responded ≡ true }
+    ensures cell { OnOk result (cell_of cell.new ≡ record (given (Proposal.Session client series responded command.now) (cell_of cell.old)) { applied = cell.old.applied }) }
+    ensures ending { IfOk result (λ ending. ending ≡ ending_of (Proposal.Session client series responded command.now) (cell_of cell.old)) }
+{
+    match cell.sessions.admit(client, series, responded)? {
+        Verdict::Acts => {
+            let reply = cell.machine.update(command)?;
+            cell.sessions.keep(client, series, reply.copy()?)?;
+            Ok(Some(Ending::Done { reply }))
+        }
+        Verdict::RepeatOf { reply } => Ok(Some(Ending::Done { reply })),
+        Verdict::Responded => Ok(Some(Ending::Responded)),
+        Verdict::NotStanding | Verdict::Taken => Ok(Some(Ending::Rejected)),
+        Verdict::Nothing => Ok(None),
+    }
+}
+
+/// Gives a proposal to the sessions and the object. Answers how its request ends.
+fn judge(proposal: &Proposal, cell: &mut Cell) -> Result<Option<Ending>, NoMemory>
+    requires { is_fit proposal.now ≡ true }
+    ensures cell { OnOk result (cell_of cell.new ≡ record (given proposal.now (cell_of cell.old)) { applied = cell.old.applied }) }
+    ensures ending { IfOk result (λ ending. ending ≡ ending_of proposal.now (cell_of cell.old)) }
+{
+    match proposal {
+        Proposal::Blank => Ok(None),
+        Proposal::Plain { command } => Ok(Some(Ending::Done {
+            reply: cell.machine.update(command)?,
+        })),
+        Proposal::Session {
+            client,
+            series,
+            responded,
+            command: text,
+        } => command(cell, *client, *series, *responded, text),
+        Proposal::Register { client } => match cell.sessions.register(*client)? {
+            Verdict::Acts => Ok(Some(Ending::Registered)),
+            _ => Ok(Some(Ending::Rejected)),
+        },
+        Proposal::Close { client } => match cell.sessions.close(*client) {
+            Verdict::Acts => Ok(Some(Ending::Closed)),
+            _ => Ok(Some(Ending::Rejected)),
+        },
+    }
+}
+
+/// Gives an entry to the sessions and the object, and ends its request.
 fn apply_one(
     contexts: &Contexts,
     entry: &Entry,
@@ -66,28 +140,21 @@ fn apply_one(
     requests: &mut Requests,
     out: &mut Tolds,
 ) -> Result<(), NoMemory>
-    requires { cell.old.applied + 1 < 2 ^ 64 }
+    requires room { cell.old.applied + 1 < 2 ^ 64 }
+    requires fit { is_fit entry.now.proposal ≡ true }
     ensures cell { OnOk result (cell_of cell.new ≡ (applied_by contexts.now entry.now.proposal entry.now.key (cell_of cell.old) requests.old.wants).cell) }
     ensures requests { OnOk result (requests.new ≡ record requests.old { wants = (applied_by contexts.now entry.now.proposal entry.now.key (cell_of cell.old) requests.old.wants).wants }) }
     ensures told { OnOk result (out.new ≡ out.old ++ (applied_by contexts.now entry.now.proposal entry.now.key (cell_of cell.old) requests.old.wants).told) }
 {
-    match &entry.proposal {
-        Proposal::Plain { command } => {
-            let reply = cell.machine.update(command)?;
-            cell.applied += 1;
-            end_command(contexts, entry.key, cell.applied, reply, requests, out)
-        }
-        Proposal::Blank
-        | Proposal::Session { .. }
-        | Proposal::Register { .. }
-        | Proposal::Close { .. } => {
-            cell.applied += 1;
-            Ok(())
-        }
+    let ending = judge(&entry.proposal, cell)?;
+    cell.applied += 1;
+    match ending {
+        None => Ok(()),
+        Some(ending) => end_request(contexts, entry.key, cell.applied, ending, requests, out),
     }
 }
 
-/// Gives entries to the object, in order.
+/// Gives entries to the sessions and the object, in order.
 #[tactic(auto, unfolding(run_model::specs::Run::applied))]
 pub fn apply_all(
     contexts: &Contexts,
@@ -96,7 +163,8 @@ pub fn apply_all(
     requests: &mut Requests,
     out: &mut Tolds,
 ) -> Result<(), NoMemory>
-    requires { cell.old.applied + length entries.now < 2 ^ 64 }
+    requires room { cell.old.applied + length entries.now < 2 ^ 64 }
+    requires fit { are_fit entries.now ≡ true }
     ensures cell { OnOk result (cell_of cell.new ≡ (applied contexts.now entries.now (cell_of cell.old) requests.old.wants).cell) }
     ensures requests { OnOk result (requests.new ≡ record requests.old { wants = (applied contexts.now entries.now (cell_of cell.old) requests.old.wants).wants }) }
     ensures told { OnOk result (out.new ≡ out.old ++ (applied contexts.now entries.now (cell_of cell.old) requests.old.wants).told) }

@@ -1,15 +1,16 @@
-ghost use Rattle.std.specs.Prelude.{◌≡◌, ◌++◌, ◌+◌, ◌<◌, ◌≤◌, take, drop, ◌^◌, [], ◌∷◌, OnOk, IfOk, length};
+ghost use Rattle.std.specs.Prelude.{◌≡◌, ◌++◌, ◌+◌, ◌<◌, ◌≤◌, take, drop, ◌^◌, [], ◌∷◌, ℕ, List, true, OnOk, IfOk, length, length as list_length};
 ghost use Rattle.run_model.specs.World.{start};
 ghost use Rattle.run_model.specs.Replica.{on_local_proposal};
-ghost use Rattle.run_model.specs.Run.{apply, apply_tried, ask, context_at, decided_entries, dropped, event_step, is_busy, is_ripe, is_used, next_entries, next_key, note_told, proposes, reached, read_taken, reads, round, save, save_tried, settle, timeout, turn};
+ghost use Rattle.script_run.specs.Fit.{are_fit, is_fit, is_fit_line, is_fit_limit};
+ghost use Rattle.run_model.specs.Run.{again, again_by, apply, apply_tried, asks, call, call_by, client_at, close, completed, context_at, bare, decided_entries, dropped, event_step, is_busy, is_ripe, is_used, grouped, next_entries, next_key, next_series, note_told, proposes, reached, read_taken, reads, register, round, save, save_tried, settle, timeout, turn};
 
 use crate::cell::{Cell, answer_all, answer_line, apply_all, tell};
+use crate::clients::Clients;
 use crate::contexts::Contexts;
 use crate::replica::{ME, Saving, fresh, is_unsaved, last, propose, read_at, ripe, save, time_out};
 use crate::requests::Requests;
 use host_ids::{Entry, Key, NoMemory, Proposal, Text};
-use kv_object::Kv;
-use run_model::{HostEvent, Limit, Line, Replica, ScriptLine, Told, Tolds, Want};
+use run_model::{ClientSession, HostEvent, Limit, Line, Replica, ScriptLine, Told, Tolds, Want};
 use std::alloc::Global;
 
 /// A run stops where leaders have appended so many entries.
@@ -21,7 +22,14 @@ const MOST_BYTES: usize = 67_108_864;
 /// A settle has at most so many rounds.
 const MOST_ROUNDS: u32 = 64;
 
-/// The one host of a run, with its replica, its cell and its requests.
+/// The greatest series.
+const MOST_SERIES: u64 = u64::MAX - 2;
+
+/// A group without a limit of its own has this one of sessions.
+const MOST_SESSIONS: u32 = 4096;
+
+/// The one host of a run, with its replica, its cell, its requests and its clients' sessions. The
+/// numbers of all proposals in the log are in their ranges.
 #[derive(Drop)]
 pub struct Host {
     alloc: Global,
@@ -29,6 +37,8 @@ pub struct Host {
     cell: Cell,
     contexts: Contexts,
     requests: Requests,
+    clients: Clients,
+    ghost fit: { are_fit replica.log ≡ true },
 }
 
 /// So many entries behind the first ones, or those that are there.
@@ -45,20 +55,29 @@ fn part(entries: &[Entry], first: u64, count: u64) -> &[Entry]
 impl Host {
     ghost use Rattle.script_run.specs.World.{world_of, read_after};
 
-    /// A host at the beginning of a run, which takes no memory.
-    pub fn new(alloc: Global) -> Host
-        ensures { world_of result ≡ start }
+    /// A host at the beginning of a run.
+    pub fn new(alloc: Global) -> Result<Host, NoMemory>
+        ensures { IfOk result (λ host. world_of host ≡ start) }
     {
-        Host {
+        Ok(Host {
             alloc,
             replica: fresh(alloc),
-            cell: Cell {
-                applied: 0,
-                machine: Kv::empty(alloc),
-            },
+            cell: Cell::new(alloc, MOST_SESSIONS)?,
             contexts: Contexts::new(alloc),
             requests: Requests::new(alloc),
-        }
+            clients: Clients::new(alloc),
+        })
+    }
+
+    /// Makes the group with its limit of sessions.
+    fn group(&mut self, limit: Option<u32>) -> Result<(), NoMemory>
+        requires { is_fit_limit limit ≡ true }
+        ensures { OnOk result (world_of self.new ≡ grouped limit (world_of self.old)) }
+    {
+        let limit = limit.unwrap_or(MOST_SESSIONS);
+        self.cell = Cell::new(self.alloc, limit)?;
+        self.replica = fresh(self.alloc);
+        Ok(())
     }
 
     /// The context of a request, `-` where the key is that of none.
@@ -119,17 +138,160 @@ impl Host {
         }
     }
 
-    fn ask(&mut self, context: Text, command: Text, out: &mut Tolds) -> Result<(), NoMemory>
-        ensures world { OnOk result (world_of self.new ≡ (ask (world_of self.old) context command).world) }
-        ensures told { OnOk result (out.new ≡ out.old ++ (ask (world_of self.old) context command).told) }
+    /// Tells that a line is refused.
+    fn refuse(&self, number: u8, out: &mut Tolds) -> Result<(), NoMemory>
+        ensures { OnOk result (out.new ≡ out.old ++ bare (Line.Refused number) ∷ []) }
+    {
+        tell(self.alloc, Line::Refused { number }, out)
+    }
+
+    /// Asks a command of so many bytes as this proposal.
+    fn ask(
+        &mut self,
+        context: Text,
+        length: usize,
+        proposal: Proposal,
+        out: &mut Tolds,
+    ) -> Result<(), NoMemory>
+        requires { is_fit proposal ≡ true }
+        ensures world { (command : List ℕ) → length ≡ list_length command → OnOk result (world_of self.new ≡ (asks (world_of self.old) context command proposal).world) }
+        ensures told { (command : List ℕ) → length ≡ list_length command → OnOk result (out.new ≡ out.old ++ (asks (world_of self.old) context command proposal).told) }
     {
         if self.is_used(&context) {
-            return tell(self.alloc, Line::Refused { number: 5 }, out);
+            return self.refuse(5, out);
+        }
+        if length > 512 {
+            return self.refuse(14, out);
+        }
+        self.propose(context, proposal, out)
+    }
+
+    fn register(
+        &mut self,
+        context: Text,
+        name: Text,
+        client: u64,
+        out: &mut Tolds,
+    ) -> Result<(), NoMemory>
+        requires { 1 ≤ client }
+        ensures world { OnOk result (world_of self.new ≡ (register (world_of self.old) context name client).world) }
+        ensures told { OnOk result (out.new ≡ out.old ++ (register (world_of self.old) context name client).told) }
+    {
+        if self.is_used(&context) {
+            return self.refuse(5, out);
+        }
+        if self.clients.get(&name).is_some() {
+            return self.refuse(6, out);
+        }
+        let session = ClientSession {
+            group: 1,
+            client,
+            series: 1,
+            responded: 0,
+            outstanding: None,
+        };
+        self.clients.put(name, session)?;
+        self.propose(context, Proposal::Register { client }, out)
+    }
+
+    fn call(
+        &mut self,
+        context: Text,
+        name: Text,
+        command: Text,
+        out: &mut Tolds,
+    ) -> Result<(), NoMemory>
+        ensures world { OnOk result (world_of self.new ≡ (call (world_of self.old) context name command).world) }
+        ensures told { OnOk result (out.new ≡ out.old ++ (call (world_of self.old) context name command).told) }
+    {
+        if self.is_used(&context) {
+            return self.refuse(5, out);
+        }
+        let Some(session) = self.clients.get(&name) else {
+            return self.refuse(6, out);
+        };
+        if session.outstanding.is_some() {
+            return self.refuse(7, out);
         }
         if command.bytes().len() > 512 {
-            return tell(self.alloc, Line::Refused { number: 14 }, out);
+            return self.refuse(14, out);
         }
-        self.propose(context, Proposal::Plain { command }, out)
+        let responded = session.responded;
+        let next = ClientSession {
+            group: session.group,
+            client: session.client,
+            series: session.series,
+            responded,
+            outstanding: Some(command.copy()?),
+        };
+        let proposal = Proposal::Session {
+            client: session.client,
+            series: session.series,
+            responded,
+            command,
+        };
+        self.clients.put(name, next)?;
+        self.propose(context, proposal, out)
+    }
+
+    fn again(&mut self, context: Text, name: &Text, out: &mut Tolds) -> Result<(), NoMemory>
+        ensures world { OnOk result (world_of self.new ≡ (again (world_of self.old) context name.now).world) }
+        ensures told { OnOk result (out.new ≡ out.old ++ (again (world_of self.old) context name.now).told) }
+    {
+        if self.is_used(&context) {
+            return self.refuse(5, out);
+        }
+        let Some(session) = self.clients.get(name) else {
+            return self.refuse(6, out);
+        };
+        let Some(command) = &session.outstanding else {
+            return self.refuse(7, out);
+        };
+        let series = session.series;
+        let proposal = Proposal::Session {
+            client: session.client,
+            series,
+            responded: session.responded,
+            command: command.copy()?,
+        };
+        self.propose(context, proposal, out)
+    }
+
+    fn completed(&mut self, name: Text, out: &mut Tolds) -> Result<(), NoMemory>
+        ensures world { OnOk result (world_of self.new ≡ (completed (world_of self.old) name).world) }
+        ensures told { OnOk result (out.new ≡ out.old ++ (completed (world_of self.old) name).told) }
+    {
+        let Some(session) = self.clients.get(&name) else {
+            return self.refuse(6, out);
+        };
+        if session.outstanding.is_none() {
+            return self.refuse(7, out);
+        }
+        let next = ClientSession {
+            group: session.group,
+            client: session.client,
+            series: session.series.min(MOST_SERIES - 1) + 1,
+            responded: session.series,
+            outstanding: None,
+        };
+        self.clients.put(name, next)
+    }
+
+    fn close(&mut self, context: Text, name: &Text, out: &mut Tolds) -> Result<(), NoMemory>
+        ensures world { OnOk result (world_of self.new ≡ (close (world_of self.old) context name.now).world) }
+        ensures told { OnOk result (out.new ≡ out.old ++ (close (world_of self.old) context name.now).told) }
+    {
+        if self.is_used(&context) {
+            return self.refuse(5, out);
+        }
+        let Some(session) = self.clients.get(name) else {
+            return self.refuse(6, out);
+        };
+        if session.outstanding.is_some() {
+            return self.refuse(7, out);
+        }
+        let client = session.client;
+        self.propose(context, Proposal::Close { client }, out)
     }
 
     fn propose(
@@ -138,6 +300,7 @@ impl Host {
         proposal: Proposal,
         out: &mut Tolds,
     ) -> Result<(), NoMemory>
+        requires { is_fit proposal ≡ true }
         ensures world { OnOk result (world_of self.new ≡ (proposes (world_of self.old) context proposal).world) }
         ensures told { OnOk result (out.new ≡ out.old ++ (proposes (world_of self.old) context proposal).told) }
     {
@@ -175,7 +338,7 @@ impl Host {
         ensures told { OnOk result (out.new ≡ out.old ++ (reads (world_of self.old) context query).told) }
     {
         if self.is_used(&context) {
-            return tell(self.alloc, Line::Refused { number: 5 }, out);
+            return self.refuse(5, out);
         }
         let key = self.next_key();
         out.push(Told {
@@ -352,14 +515,19 @@ impl Host {
         size: usize,
         out: &mut Tolds,
     ) -> Result<Option<Limit>, NoMemory>
+        requires { is_fit_line line ≡ true }
         ensures world { OnOk result (world_of self.new ≡ (turn line size (world_of self.old)).world) }
         ensures told { OnOk result (out.new ≡ out.old ++ (turn line size (world_of self.old)).told) }
         ensures full { IfOk result (λ full. full ≡ (turn line size (world_of self.old)).full) }
     {
         match line {
-            ScriptLine::Skipped | ScriptLine::End | ScriptLine::Group { .. } => Ok(None),
+            ScriptLine::Skipped | ScriptLine::End => Ok(None),
             ScriptLine::Host { host } => {
                 tell(self.alloc, Line::Started { host, start: 1 }, out)?;
+                Ok(None)
+            }
+            ScriptLine::Group { limit, .. } => {
+                self.group(limit)?;
                 Ok(None)
             }
             ScriptLine::Event { event, .. } => {
@@ -371,11 +539,68 @@ impl Host {
                 command,
                 ..
             } => {
-                self.ask(context, command, out)?;
+                let length = command.bytes().len();
+                self.ask(context, length, Proposal::Plain { command }, out)?;
                 Ok(None)
             }
             ScriptLine::Read { context, query, .. } => {
                 self.reads(context, query, out)?;
+                Ok(None)
+            }
+            ScriptLine::Register {
+                context,
+                session,
+                client,
+                ..
+            } => {
+                self.register(context, session, client, out)?;
+                Ok(None)
+            }
+            ScriptLine::Call {
+                context,
+                session,
+                command,
+                ..
+            } => {
+                self.call(context, session, command, out)?;
+                Ok(None)
+            }
+            ScriptLine::Again {
+                context,
+                session,
+                ..
+            } => {
+                self.again(context, &session, out)?;
+                Ok(None)
+            }
+            ScriptLine::Completed { session } => {
+                self.completed(session, out)?;
+                Ok(None)
+            }
+            ScriptLine::Close {
+                context,
+                session,
+                ..
+            } => {
+                self.close(context, &session, out)?;
+                Ok(None)
+            }
+            ScriptLine::Raw {
+                context,
+                client,
+                series,
+                responded,
+                command,
+                ..
+            } => {
+                let length = command.bytes().len();
+                let proposal = Proposal::Session {
+                    client,
+                    series,
+                    responded,
+                    command,
+                };
+                self.ask(context, length, proposal, out)?;
                 Ok(None)
             }
             ScriptLine::Settle { .. } => self.settle(size, out),

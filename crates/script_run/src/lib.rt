@@ -4,6 +4,7 @@
 
 mod buffer;
 mod cell;
+mod clients;
 mod contexts;
 mod cut;
 mod ending;

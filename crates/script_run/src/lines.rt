@@ -1,6 +1,7 @@
-ghost use Rattle.std.specs.Prelude.{◌≡◌, ◌++◌, ◌<◌, ◌≤◌, ◌^◌, IfOk, OnOk, length, List, ℕ};
+ghost use Rattle.std.specs.Prelude.{◌≡◌, ◌++◌, ◌<◌, ◌≤◌, ◌^◌, true, IfOk, OnOk, length, List, ℕ};
 ghost use Rattle.run_model.specs.Run.{reached, most_bytes, text_of, turn};
 ghost use Rattle.run_model.specs.Script.{is_end};
+ghost use Rattle.script_run.specs.Fit.{is_fit_line};
 ghost use Rattle.script_run.specs.World.{world_of};
 ghost use Rattle.script_run.specs.Top.{HasGone, place_of};
 
@@ -54,6 +55,7 @@ fn run_line(
     host: &mut Host,
     out: &mut Buffer,
 ) -> Result<Option<Limit>, NoMemory>
+    requires { is_fit_line line ≡ true }
     ensures world { OnOk result (world_of host.new ≡ (turn line size (world_of host.old)).world) }
     ensures told { OnOk result (out.new ≡ out.old ++ text_of (turn line size (world_of host.old)).told) }
     ensures full { IfOk result (λ full. full ≡ (turn line size (world_of host.old)).full) }

@@ -1,8 +1,9 @@
 ghost use Rattle.std.specs.Prelude.{◌≡◌, ◌++◌, [], ◌∷◌, OnOk, decimal};
-ghost use Rattle.run_model.specs.Print.{print_line, limit_text, line_text, proposal_text};
+ghost use Rattle.run_model.specs.Print.{print_line, ending_text, limit_text, line_text, proposal_text};
 
 use crate::buffer::Buffer;
 use host_ids::{NoMemory, Proposal, Text};
+use object_model::Ending;
 use run_model::{Limit, Line};
 
 /// Adds a space and a proposal.
@@ -53,6 +54,27 @@ fn print_context(out: &mut Buffer, verb: &[u8], context: &Text, number: u64) -> 
     out.number(number)
 }
 
+/// Adds the line of a request that ends at a place.
+fn print_ending(
+    out: &mut Buffer,
+    context: &Text,
+    place: u64,
+    ending: &Ending,
+) -> Result<(), NoMemory>
+    ensures { OnOk result (out.new ≡ out.old ++ ending_text context.now place ending.now) }
+{
+    match ending {
+        Ending::Done { reply } => {
+            print_context(out, b"done", context, place)?;
+            out.payload(reply.bytes())
+        }
+        Ending::Rejected => print_context(out, b"rejected", context, place),
+        Ending::Responded => print_context(out, b"responded", context, place),
+        Ending::Registered => print_context(out, b"registered", context, place),
+        Ending::Closed => print_context(out, b"closed", context, place),
+    }
+}
+
 /// Adds the line of a limit that was reached.
 fn print_limit(out: &mut Buffer, limit: Limit) -> Result<(), NoMemory>
     ensures { OnOk result (out.new ≡ out.old ++ limit_text limit) }
@@ -93,10 +115,7 @@ fn print_text(out: &mut Buffer, context: &Text, line: &Line) -> Result<(), NoMem
             out.word(b"read")?;
             out.payload(query.bytes())
         }
-        Line::Done { place, reply, .. } => {
-            print_context(out, b"done", context, *place)?;
-            out.payload(reply.bytes())
-        }
+        Line::Ended { place, ending, .. } => print_ending(out, context, *place, ending),
         Line::Read { front, answer, .. } => {
             print_context(out, b"read", context, *front)?;
             out.payload(answer.bytes())

@@ -1,8 +1,9 @@
-ghost use Rattle.std.specs.Prelude.{◌≡◌, ◌+◌, ◌-◌, ◌<◌, ◌≤◌, ◌^◌, [], ◌∷◌, ℕ, OnOk, IfOk, ◌||◌, length, min, not};
+ghost use Rattle.std.specs.Prelude.{◌≡◌, ◌+◌, ◌-◌, ◌<◌, ◌≤◌, ◌^◌, [], ◌∷◌, ℕ, OnOk, IfOk, ◌||◌, true, length, min, not};
 ghost use Rattle.std.specs.List.{list_any};
 ghost use Rattle.run_model.specs.Replica.{fresh, is_leader, is_candidate, is_full, is_changed, is_pending, last, term_at, on_timeout, appended, crowned, lead, greatest, may_commit, commit_rule, own_match, may_read, on_local_proposal, on_local_read, own_vote, saved_as, save_by, on_save, next_id, ripe, gave_batch, batch_end};
 ghost use Rattle.run_model.specs.Run.{is_dropped};
 ghost use Rattle.run_model.specs.Replica.{batch_of, saved_batch};
+ghost use Rattle.script_run.specs.Fit.{are_fit, is_fit};
 ghost use Rattle.script_run.specs.Host.{timeout_notes, read_notes, lead_notes, saving_notes};
 
 use host_ids::{Batch, Entries, Entry, Key, NoMemory, Proposal};
@@ -91,6 +92,7 @@ pub fn ripe(replica: &Replica) -> u64
 pub fn time_out(replica: &mut Replica) -> bool
     ensures replica { replica.new ≡ (on_timeout replica.old).replica }
     ensures idle { (on_timeout replica.old).notes ≡ timeout_notes result }
+    ensures log { replica.new.log ≡ replica.old.log }
 {
     if is_full(replica) || is_leader(replica.role) {
         return false;
@@ -104,7 +106,8 @@ pub fn time_out(replica: &mut Replica) -> bool
 
 /// Appends an entry of the term.
 fn append(replica: &mut Replica, key: Key, proposal: Proposal) -> Result<(), NoMemory>
-    ensures { OnOk result (replica.new ≡ appended key proposal replica.old) }
+    ensures replica { OnOk result (replica.new ≡ appended key proposal replica.old) }
+    ensures log { is_fit proposal ≡ true → are_fit replica.old.log ≡ true → are_fit replica.new.log ≡ true }
 {
     let index = last(replica) + 1;
     replica.log.push(Entry {
@@ -122,6 +125,7 @@ fn append(replica: &mut Replica, key: Key, proposal: Proposal) -> Result<(), NoM
 pub fn propose(replica: &mut Replica, key: Key, proposal: Proposal) -> Result<bool, NoMemory>
     ensures replica { OnOk result (replica.new ≡ (on_local_proposal key proposal replica.old).replica) }
     ensures taken { IfOk result (λ taken. is_dropped (on_local_proposal key proposal replica.old) ≡ not taken) }
+    ensures log { is_fit proposal ≡ true → are_fit replica.old.log ≡ true → are_fit replica.new.log ≡ true }
 {
     if is_full(replica) || !is_leader(replica.role) {
         return Ok(false);
@@ -144,6 +148,7 @@ fn may_read(replica: &Replica) -> bool
 pub fn read_at(replica: &mut Replica, key: Key) -> Option<u64>
     ensures replica { replica.new ≡ (on_local_read key replica.old).replica }
     ensures notes { (on_local_read key replica.old).notes ≡ read_notes key result }
+    ensures log { replica.new.log ≡ replica.old.log }
 {
     if is_full(replica) || !may_read(replica) {
         return None;
@@ -202,7 +207,8 @@ fn greatest_commit(replica: &Replica) -> u64
 
 /// A leader commits what it has saved.
 fn match_own(replica: &mut Replica)
-    ensures { replica.new ≡ own_match replica.old }
+    ensures replica { replica.new ≡ own_match replica.old }
+    ensures log { replica.new.log ≡ replica.old.log }
 {
     if is_leader(replica.role) {
         replica.commit = greatest_commit(replica);
@@ -211,7 +217,8 @@ fn match_own(replica: &mut Replica)
 
 /// Begins to lead.
 fn lead(replica: &mut Replica) -> Result<(), NoMemory>
-    ensures { OnOk result (replica.new ≡ (lead replica.old).replica) }
+    ensures replica { OnOk result (replica.new ≡ (lead replica.old).replica) }
+    ensures log { are_fit replica.old.log ≡ true → are_fit replica.new.log ≡ true }
 {
     let none = Key {
         host: 0,
@@ -229,6 +236,7 @@ fn lead(replica: &mut Replica) -> Result<(), NoMemory>
 fn count_own(replica: &mut Replica, term: u64, vote: u8) -> Result<bool, NoMemory>
     ensures replica { OnOk result (replica.new ≡ (own_vote term vote replica.old).replica) }
     ensures notes { IfOk result (λ leads. (own_vote term vote replica.old).notes ≡ lead_notes leads replica.old.term) }
+    ensures log { are_fit replica.old.log ≡ true → are_fit replica.new.log ≡ true }
 {
     if is_candidate(replica.role) && term == replica.term && vote == ME {
         lead(replica)?;
@@ -241,6 +249,7 @@ fn count_own(replica: &mut Replica, term: u64, vote: u8) -> Result<bool, NoMemor
 fn saved(replica: &mut Replica, term: u64, vote: u8, end: u64) -> Result<bool, NoMemory>
     ensures replica { (index : ℕ) → end ≡ min index (2 ^ 64 - 2) → OnOk result (replica.new ≡ (saved_as term vote index replica.old).replica) }
     ensures notes { (index : ℕ) → IfOk result (λ leads. (saved_as term vote index replica.old).notes ≡ lead_notes leads replica.old.term) }
+    ensures log { are_fit replica.old.log ≡ true → are_fit replica.new.log ≡ true }
 {
     replica.stable = end.min(replica.from.saturating_sub(1));
     let leads = count_own(replica, term, vote)?;
@@ -294,6 +303,7 @@ fn end_of(replica: &Replica) -> u64
 fn save_changed(replica: &mut Replica) -> Result<bool, NoMemory>
     ensures replica { OnOk result (replica.new ≡ (saved_batch (batch_of replica.old) (gave_batch replica.old)).replica) }
     ensures notes { IfOk result (λ leads. (saved_batch (batch_of replica.old) (gave_batch replica.old)).notes ≡ lead_notes leads replica.old.term) }
+    ensures log { are_fit replica.old.log ≡ true → are_fit replica.new.log ≡ true }
 {
     let end = end_of(replica);
     let term = replica.term;
@@ -320,6 +330,7 @@ fn pending_end(batch: &Batch) -> u64
 pub fn save(replica: &mut Replica) -> Result<Saving, NoMemory>
     ensures replica { OnOk result (replica.new ≡ (on_save replica.old).replica) }
     ensures notes { IfOk result (λ saving. (on_save replica.old).notes ≡ saving_notes saving) }
+    ensures log { are_fit replica.old.log ≡ true → are_fit replica.new.log ≡ true }
 {
     let now = replica.term;
     if let Some(batch) = &replica.pending {

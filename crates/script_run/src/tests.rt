@@ -229,6 +229,92 @@ fn long_lines(rt: HostRuntime) -> Result<(), Fail> {
     Ok(())
 }
 
+/// Scripts with sessions and what they print. `LONG` stands for a value by which a `put` of the key
+/// `x` has 512 bytes and one more.
+const SESSIONS: [(&str, &str, &str); 6] = [
+    (
+        "an eviction by the last touch",
+        "host 1\ngroup 1 regular 1 2\ntimeout 1 1\nsettle 1\nregister 1 1 r1 s1 11\nregister 1 1 r2 s2 22\ncall 1 a s1 put x 1\ncall 1 b s2 put x 2\nagain 1 c s1\nregister 1 1 r3 s3 33\nagain 1 d s2\nagain 1 e s1\nsettle 1\nend\n",
+        "started 1 1\nleader 1 1 1\nask r1 1 register 11\nask r2 1 register 22\nask a 1 call 11 1 0 put x 1\nask b 1 call 22 1 0 put x 2\nask c 1 call 11 1 0 put x 1\nask r3 1 register 33\nask d 1 call 22 1 0 put x 2\nask e 1 call 11 1 0 put x 1\nregistered r1 2\nregistered r2 3\ndone a 4 -\ndone b 5 1\ndone c 6 -\nregistered r3 7\nrejected d 8\ndone e 9 -\nentry 1 1 - blank\nentry 1 2 r1 register 11\nentry 1 3 r2 register 22\nentry 1 4 a call 11 1 0 put x 1\nentry 1 5 b call 22 1 0 put x 2\nentry 1 6 c call 11 1 0 put x 1\nentry 1 7 r3 register 33\nentry 1 8 d call 22 1 0 put x 2\nentry 1 9 e call 11 1 0 put x 1\nend\n",
+    ),
+    (
+        "responded values up to the greatest series",
+        "host 1\ngroup 1 regular 1\ntimeout 1 1\nsettle 1\nregister 1 1 r s 5\nraw 1 1 a 5 1 0 add n 1\nraw 1 1 b 5 2 1 add n 1\nraw 1 1 c 5 1 0 add n 1\nraw 1 1 d 5 3 9 add n 1\nraw 1 1 e 5 9 0 add n 1\nraw 1 1 f 5 18446744073709551613 0 add n 1\nsettle 1\nend\n",
+        "started 1 1\nleader 1 1 1\nask r 1 register 5\nask a 1 call 5 1 0 add n 1\nask b 1 call 5 2 1 add n 1\nask c 1 call 5 1 0 add n 1\nask d 1 call 5 3 9 add n 1\nask e 1 call 5 9 0 add n 1\nask f 1 call 5 18446744073709551613 0 add n 1\nregistered r 2\ndone a 3 1\ndone b 4 2\nresponded c 5\nresponded d 6\nresponded e 7\ndone f 8 3\nentry 1 1 - blank\nentry 1 2 r register 5\nentry 1 3 a call 5 1 0 add n 1\nentry 1 4 b call 5 2 1 add n 1\nentry 1 5 c call 5 1 0 add n 1\nentry 1 6 d call 5 3 9 add n 1\nentry 1 7 e call 5 9 0 add n 1\nentry 1 8 f call 5 18446744073709551613 0 add n 1\nend\n",
+    ),
+    (
+        "a session that is closed, and its client under another name",
+        "host 1\ngroup 1 regular 1\ntimeout 1 1\nsettle 1\nregister 1 1 r s 5\ncall 1 a s add n 1\nagain 1 b s\nsettle 1\ncompleted s\nagain 1 c s\nclose 1 d s\nsettle 1\nregister 1 1 e s 5\nregister 1 1 f t 5\nsettle 1\ncall 1 g t add n 1\ncall 1 h s add n 1\nsettle 1\nend\n",
+        "started 1 1\nleader 1 1 1\nask r 1 register 5\nask a 1 call 5 1 0 add n 1\nask b 1 call 5 1 0 add n 1\nregistered r 2\ndone a 3 1\ndone b 4 1\nrefused 7\nask d 1 close 5\nclosed d 5\nrefused 6\nask f 1 register 5\nregistered f 6\nask g 1 call 5 1 0 add n 1\nask h 1 call 5 2 1 add n 1\ndone g 7 2\ndone h 8 3\nentry 1 1 - blank\nentry 1 2 r register 5\nentry 1 3 a call 5 1 0 add n 1\nentry 1 4 b call 5 1 0 add n 1\nentry 1 5 d close 5\nentry 1 6 f register 5\nentry 1 7 g call 5 1 0 add n 1\nentry 1 8 h call 5 2 1 add n 1\nend\n",
+    ),
+    (
+        "refusals, the least number first",
+        "host 1\ngroup 1 regular 1\ntimeout 1 1\nsettle 1\nregister 1 1 r s 5\ncall 1 r u put x 1\nagain 1 r s\nask 1 1 r put x LONG\ncall 1 a u put x LONG\ncall 1 a s put x 1\ncall 1 b s put x LONG\nclose 1 b s\ncall 1 a s put x 1\nregister 1 1 a s 9\nregister 1 1 b s 9\nagain 1 b u\nclose 1 b u\ncompleted u\ncompleted s\ncompleted s\nagain 1 b s\ncall 1 b s put x LONG\nraw 1 1 b 5 1 0 put x LONG\nraw 1 1 a 5 1 0 put x 1\nend\n",
+        "started 1 1\nleader 1 1 1\nask r 1 register 5\nrefused 5\nrefused 5\nrefused 5\nrefused 6\nask a 1 call 5 1 0 put x 1\nrefused 7\nrefused 7\nrefused 5\nrefused 5\nrefused 6\nrefused 6\nrefused 6\nrefused 6\nrefused 7\nrefused 7\nrefused 14\nrefused 14\nrefused 5\nentry 1 1 - blank\nend\n",
+    ),
+    (
+        "requests that are dropped act on the session",
+        "host 1\ngroup 1 regular 1\nregister 1 1 r s 5\ncall 1 a s put x 1\ncall 1 b s put x 1\ntimeout 1 1\nsettle 1\nagain 1 c s\nregister 1 1 d s 5\nregister 1 1 e t 5\nagain 1 f s\nsettle 1\nend\n",
+        "started 1 1\nask r 1 register 5\ndropped r\nask a 1 call 5 1 0 put x 1\ndropped a\nrefused 7\nleader 1 1 1\nask c 1 call 5 1 0 put x 1\nrefused 6\nask e 1 register 5\nask f 1 call 5 1 0 put x 1\nrejected c 2\nregistered e 3\ndone f 4 -\nentry 1 1 - blank\nentry 1 2 c call 5 1 0 put x 1\nentry 1 3 e register 5\nentry 1 4 f call 5 1 0 put x 1\nend\n",
+    ),
+    (
+        "a limit of one session",
+        "host 1\ngroup 1 regular 1 1\ntimeout 1 1\nsettle 1\nregister 1 1 a s 1\nregister 1 1 b t 2\ncall 1 c s put x 1\ncall 1 d t put x 2\nregister 1 1 e u 2\nsettle 1\nend\n",
+        "started 1 1\nleader 1 1 1\nask a 1 register 1\nask b 1 register 2\nask c 1 call 1 1 0 put x 1\nask d 1 call 2 1 0 put x 2\nask e 1 register 2\nregistered a 2\nregistered b 3\nrejected c 4\ndone d 5 -\nrejected e 6\nentry 1 1 - blank\nentry 1 2 a register 1\nentry 1 3 b register 2\nentry 1 4 c call 1 1 0 put x 1\nentry 1 5 d call 2 1 0 put x 2\nentry 1 6 e register 2\nend\n",
+    ),
+];
+
+#[test]
+fn sessions(rt: HostRuntime) -> Result<(), Fail> {
+    let alloc = rt.alloc();
+    let mut long = String::new(alloc);
+    for _ in 0..507 {
+        long.push_str("7")?;
+    }
+    for (name, script, wanted) in SESSIONS {
+        let script = script.replace(alloc, "LONG", long.as_str())?;
+        let (status, text) = run(&rt, "run", script.as_str(), &[], &[])?;
+        assert_eq!(rt; status.number, 0, "{name}");
+        assert_eq!(rt; text.as_str(), wanted, "{name}");
+    }
+    Ok(())
+}
+
+#[test]
+fn numbers_out_of_range(rt: HostRuntime) -> Result<(), Fail> {
+    for line in [
+        "raw 1 1 a 0 1 0 put x 1",
+        "raw 1 1 a 1 0 0 put x 1",
+        "raw 1 1 a 1 18446744073709551614 0 put x 1",
+        "raw 1 1 a 1 1 18446744073709551614 put x 1",
+        "raw 1 1 a 18446744073709551616 1 0 put x 1",
+        "register 1 1 a s 0",
+        "register 1 1 a s",
+        "call 1 a s",
+        "call 2 a s put x 1",
+        "again 1 a",
+        "completed",
+        "close 1 a",
+        "register 1 1 a S 1",
+    ] {
+        let script = format!(in rt.alloc(); "host 1\ngroup 1 regular 1 4096\n{line}\nend\n")?;
+        let (status, text) = run(&rt, "run", script.as_str(), &[], &[])?;
+        assert_eq!(rt; status.number, 3, "{line}");
+        assert_eq!(rt; text.as_str(), "started 1 1\nbadline 3\n", "{line}");
+    }
+    for line in [
+        "group 1 regular 1 0",
+        "group 1 regular 1 4097",
+        "group 1 regular 1 01",
+    ] {
+        let script = format!(in rt.alloc(); "host 1\n{line}\nend\n")?;
+        let (status, text) = run(&rt, "run", script.as_str(), &[], &[])?;
+        assert_eq!(rt; status.number, 3, "{line}");
+        assert_eq!(rt; text.as_str(), "started 1 1\nbadline 2\n", "{line}");
+    }
+    Ok(())
+}
+
 /// A script with so many asks of one key, and what they print.
 fn asks(rt: &HostRuntime, count: u64) -> Result<(String, String), Fail> {
     let alloc = rt.alloc();

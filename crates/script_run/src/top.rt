@@ -74,8 +74,11 @@ fn run_script<S: Source, K: Sink>(alloc: Global, source: &mut S, sink: &mut K) -
 {
     runs_are_legal();
     scripts_end();
+    let Ok(host) = Host::new(alloc) else {
+        return Status { number: 8 };
+    };
     let mut runner = Runner {
-        host: Host::new(alloc),
+        host,
         setup: Setup::Nothing,
         lines: 0,
         size: 0,

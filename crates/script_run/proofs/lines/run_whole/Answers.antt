@@ -21,7 +21,7 @@ returns-in_default-2 c =
       v.1.printed,
       λ more. ends v.0 _ _ _ _ (v.1.ahead more)
           (rw (c.in-Some.ensures.parts more)
-          (at_bad r.setup (world_of r.host) r.lines r.size c.in-Some.line.now (c.in-Some.after.now ++ more) (sym c.reached.ensures ∙ c.in_default-reached.is) (sym c.in_ok-said.ensures ∙ c.in_default-2.is))),
+          (at_bad r.setup (world_of r.host) r.lines r.size c.in-Some.line.now (c.in-Some.after.now ++ more) (sym c.reached.ensures ∙ c.in_default-reached.is) (sym c.in_ok-said.ensures.line ∙ c.in_default-2.is))),
     )
 
 pub returns-then-is_end : goal.returns-then-is_end
@@ -32,7 +32,7 @@ returns-then-is_end c =
       v.1.printed,
       λ more. ends v.0 _ _ _ _ (v.1.ahead more)
           (rw (c.in-Some.ensures.parts more)
-          (at_end r.setup (world_of r.host) r.lines r.size c.in-Some.line.now (c.in-Some.after.now ++ more) c.in-Some-2.said (sym c.reached.ensures ∙ c.in_default-reached.is) (sym c.in_ok-said.ensures ∙ c.in-Some-2.is) (sym c.is_end.ensures ∙ c.if-is_end.true))),
+          (at_end r.setup (world_of r.host) r.lines r.size c.in-Some.line.now (c.in-Some.after.now ++ more) c.in-Some-2.said (sym c.reached.ensures ∙ c.in_default-reached.is) (sym c.in_ok-said.ensures.line ∙ c.in-Some-2.is) (sym c.is_end.ensures ∙ c.if-is_end.true))),
     )
 
 pub returns-in-Some-3 : goal.returns-in-Some-3
@@ -45,7 +45,7 @@ returns-in-Some-3 c =
       c.in_ok-limit.ensures.told ∙ ap (λ (l : List ℕ). l ++ lines) v.1.printed ∙ append_assoc c.args.out.now v.0 lines,
       λ more. rw c.in_ok-limit.ensures.world
           (full_reached v.0 r.setup w r.lines r.size (c.script.rest.now ++ more) c.in-Some.line.now (c.in-Some.after.now ++ more) c.in-Some-2.said c.in-Some-3.limit _ (v.1.ahead more) (c.in-Some.ensures.parts more)
-          (sym c.reached.ensures ∙ c.in_default-reached.is) (sym c.in_ok-said.ensures ∙ c.in-Some-2.is) (sym c.is_end.ensures ∙ c.if-is_end.false) (sym c.in_ok-limit.ensures.full ∙ c.in-Some-3.is)),
+          (sym c.reached.ensures ∙ c.in_default-reached.is) (sym c.in_ok-said.ensures.line ∙ c.in-Some-2.is) (sym c.is_end.ensures ∙ c.if-is_end.false) (sym c.in_ok-limit.ensures.full ∙ c.in-Some-3.is)),
     )
 
 pub script-preserved : goal.script-preserved
@@ -59,7 +59,7 @@ script-preserved c =
         printed = c.in_ok-limit.ensures.told ∙ ap (λ (l : List ℕ). l ++ lines) v.1.printed ∙ append_assoc c.args.out.now v.0 lines;
         ahead = λ more. rw (c.in_ok-limit.ensures.world, c.setup_after-runner.ensures)
             (next_ahead v.0 r.setup w r.lines r.size (c.script.rest.now ++ more) c.in-Some.line.now (c.in-Some.after.now ++ more) c.in-Some-2.said _ (v.1.ahead more) (c.in-Some.ensures.parts more)
-            (sym c.reached.ensures ∙ c.in_default-reached.is) (sym c.in_ok-said.ensures ∙ c.in-Some-2.is) (sym c.is_end.ensures ∙ c.if-is_end.false) (sym c.in_ok-limit.ensures.full ∙ c.in_default-3.is));
+            (sym c.reached.ensures ∙ c.in_default-reached.is) (sym c.in_ok-said.ensures.line ∙ c.in-Some-2.is) (sym c.is_end.ensures ∙ c.if-is_end.false) (sym c.in_ok-limit.ensures.full ∙ c.in_default-3.is));
         sizes = omega (arith, c.in-Some.ensures.length, v.1.sizes);
         counts = omega (arith, v.1.counts);
       },

@@ -1,0 +1,5 @@
+pub mod Table
+pub mod Calls
+pub mod Law
+pub mod Section
+pub mod Follow

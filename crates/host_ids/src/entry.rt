@@ -72,6 +72,13 @@ impl Entries {
         }
     }
 
+    /// The entries of a `Vec`, which takes no memory.
+    pub fn from_vec(held: Vec<Entry>) -> Entries
+        ensures { result ≡ held.items }
+    {
+        Entries { held }
+    }
+
     /// Adds an entry at the end. After want of memory, the only error, all is as before.
     pub fn push(&mut self, entry: Entry) -> Result<(), NoMemory>
         ensures ok { OnOk result (self.new ≡ self.old ++ entry ∷ []) }
@@ -86,6 +93,13 @@ impl Entries {
         ensures { result.now ≡ self.now }
     {
         &self.held
+    }
+
+    /// The entries in order, as a `Vec` of their owner's.
+    pub fn into_vec(self) -> Vec<Entry>
+        ensures { result.items ≡ self }
+    {
+        self.held
     }
 }
 

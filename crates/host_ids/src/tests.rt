@@ -57,6 +57,9 @@ fn copies_have_the_same_contents(rt: HostRuntime) -> Result<(), Fail> {
         entries.push(entry)?;
     }
     assert_eq!(rt; entries.items().len(), 5);
+    let held = entries.into_vec();
+    assert_eq!(rt; held.len(), 5);
+    assert_eq!(rt; Entries::from_vec(held).items().len(), 5);
     let verdict = Verdict::RepeatOf {
         reply: text_of(alloc, "5")?,
     };

@@ -1,0 +1,123 @@
+ghost use Rattle.std.specs.Prelude.{◌≡◌, ◌≤◌, ◌<◌, ◌+◌, ◌^◌, length, IfOk, OnOk, OnErr};
+ghost use Rattle.raft_model.specs.Log.{empty, last, term_there, slice, append_after, cut_front, reset};
+
+use crate::copies::{copies, some_from};
+use host_ids::{Entries, Entry, NoMemory};
+use std::alloc::Global;
+use std::marker::Model;
+
+/// A replica's log: a front with its term, and the entries behind it.
+///
+/// The front is the index before the first entry that is kept, 0 where all are; the last index is
+/// that of the last entry, or the front where there is none. Clauses see a log as the record of its
+/// front, the front's term and its entries. Source: dissertation sections 3.5 and 5.1.
+#[derive(Debug, Drop)]
+pub struct Log {
+    front: u64,
+    front_term: u64,
+    held: Vec<Entry>,
+}
+
+impl Model for Log {
+    ghost use Rattle.std.specs.Prelude.{◌<◌, ◌+◌, ◌^◌, length};
+    ghost use Rattle.raft_model.specs.Log.{Log as LogValue};
+
+    ghost Value = { LogValue };
+
+    ghost view = { λ l. record { front = l.front; front_term = l.front_term; entries = l.held.items } };
+
+    ghost invariant = { λ l. l.front + length l.held.items < 2 ^ 64 };
+}
+
+impl Log {
+    /// A log without entries from the front 0 on, which takes no memory.
+    pub fn new(alloc: Global) -> Log
+        ensures { result ≡ empty }
+    {
+        Log {
+            front: 0,
+            front_term: 0,
+            held: Vec::new(alloc),
+        }
+    }
+
+    /// The index before the first entry that is kept, 0 where all are.
+    pub fn front(&self) -> u64
+        ensures { result ≡ self.now.front }
+    {
+        self.front
+    }
+
+    /// The index of the last entry; the front where there is none.
+    pub fn last(&self) -> u64
+        ensures { result ≡ last self.now }
+    {
+        self.front + self.held.len() as u64
+    }
+
+    /// The term at an index; `None` exactly where the index is below the front or above the last.
+    pub fn term_at(&self, index: u64) -> Option<u64>
+        ensures { result ≡ term_there self.now index }
+    {
+        if index < self.front || index > self.last() {
+            return None;
+        }
+        if index == self.front {
+            return Some(self.front_term);
+        }
+        Some(self.held[(index - self.front - 1) as usize].term)
+    }
+
+    /// The entries from `first` on, at most `most` of them; `first` lies from front + 1 to last + 1.
+    /// It takes as long as what it copies. The only error is want of memory.
+    pub fn slice(&self, first: u64, most: u64) -> Result<Entries, NoMemory>
+        requires behind { self.now.front < first }
+        requires within { first ≤ last self.now + 1 }
+        ensures { IfOk result (λ es. es ≡ slice self.now first most) }
+    {
+        let place = first - self.front - 1;
+        let some = some_from(&self.held, place as usize, most as usize);
+        copies(*self.held.allocator(), some)
+    }
+
+    /// The entries up to `index` stay, and these come behind them; `index` lies from front to last,
+    /// and the last index stays below 2^64. It takes as long as what goes and what comes. After want
+    /// of memory, the only error, all is as before.
+    pub fn append_after(&mut self, index: u64, entries: Entries) -> Result<(), NoMemory>
+        requires behind { self.old.front ≤ index }
+        requires within { index ≤ last self.old }
+        requires fits { index + length entries < 2 ^ 64 }
+        ensures ok { OnOk result (self.new ≡ append_after self.old index entries) }
+        ensures err { OnErr result (self.new ≡ self.old) }
+    {
+        let mut more = entries.into_vec();
+        self.held.reserve(more.len())?;
+        self.held.truncate((index - self.front) as usize);
+        self.held.append(&mut more)?;
+        Ok(())
+    }
+
+    /// The front becomes `index`, with the term there, and the entries up to it go; `index` lies from
+    /// front to last. It takes no memory.
+    pub fn cut_front(&mut self, index: u64)
+        requires behind { self.old.front ≤ index }
+        requires within { index ≤ last self.old }
+        ensures { self.new ≡ cut_front self.old index }
+    {
+        if index > self.front {
+            let count = (index - self.front) as usize;
+            self.front_term = self.held[count - 1].term;
+            self.held.drain(..count);
+            self.front = index;
+        }
+    }
+
+    /// The front becomes `index`, with a term, and no entry is kept. It takes no memory.
+    pub fn reset(&mut self, index: u64, term: u64)
+        ensures { self.new ≡ reset index term }
+    {
+        self.held.clear();
+        self.front = index;
+        self.front_term = term;
+    }
+}

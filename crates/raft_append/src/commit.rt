@@ -1,0 +1,90 @@
+ghost use Rattle.std.specs.Prelude.{◌≡◌, ◌≤◌, ◌<◌, length, nat_le};
+ghost use Rattle.std.specs.List.{All};
+ghost use Rattle.raft_model.specs.Roster.{at, count, is_majority};
+ghost use Rattle.raft_model.specs.Log.{term_at};
+ghost use Rattle.raft_model.specs.Replica.{committed_by};
+ghost use Rattle.raft_append.specs.Matching.{greatest_below};
+
+use log_view::Log;
+use raft_model::Progress;
+
+/// The commit rule: the greatest index above `commit` up to which a majority of the voters has matched
+/// the log, and whose entry is of `term`; `commit` where there is none.
+///
+/// `voters` are the 1 to 7 hosts of the group, ascending, each 1 to 9. An entry of an earlier term
+/// isn't committed by counting who has it, but by an entry of the term behind it. It takes no memory,
+/// and as long as there are indices above `commit` that a majority has and that aren't of the term.
+/// Source: dissertation sections 3.5 and 3.6.
+#[tactic(auto, using(crate::proofs::Matched::skipped, crate::proofs::Matched::greatest_less))]
+pub fn commit_candidate(
+    log: &Log,
+    term: u64,
+    commit: u64,
+    voters: &[u8],
+    progress: &Progress,
+) -> u64
+    requires few { length voters.now ≤ 7 }
+    requires hosts { All (λ v. v ≤ 9) voters.now }
+    ensures { result ≡ committed_by voters.now progress.now.matched log.now term commit }
+{
+    let mut left = log.last().saturating_sub(commit);
+    while left > 0 {
+        let index = commit + left;
+        if !has_majority(voters, &progress.matched, index) {
+            left = matched_below(voters, &progress.matched, index).saturating_sub(commit);
+        } else if term_or_zero(log, index) == term {
+            return index;
+        } else {
+            left -= 1;
+        }
+    }
+    commit
+}
+
+/// The term at an index from front to last, 0 elsewhere.
+fn term_or_zero(log: &Log, index: u64) -> u64
+    ensures { result ≡ term_at log.now index }
+{
+    log.term_at(index).unwrap_or(0)
+}
+
+/// Whether a majority has matched an index.
+fn has_majority(voters: &[u8], matched: &[u64; 10], index: u64) -> bool
+    requires few { length voters.now ≤ 7 }
+    requires hosts { All (λ v. v ≤ 9) voters.now }
+    ensures { result ≡ is_majority voters.now (λ v. nat_le index (at matched.now v)) }
+{
+    voters.len() < 2 * matched_count(voters, matched, index)
+}
+
+/// How many voters have matched an index.
+fn matched_count(voters: &[u8], matched: &[u64; 10], index: u64) -> usize
+    requires hosts { All (λ v. v ≤ 9) voters.now }
+    ensures number { result ≡ count (λ v. nat_le index (at matched.now v)) voters.now }
+    ensures most { result ≤ length voters.now }
+{
+    let mut number = 0;
+    for voter in voters {
+        if index <= matched[*voter as usize] {
+            number += 1;
+        }
+    }
+    number
+}
+
+/// The greatest index below this one that a voter has matched, 0 for none.
+fn matched_below(voters: &[u8], matched: &[u64; 10], index: u64) -> u64
+    requires some { 0 < index }
+    requires hosts { All (λ v. v ≤ 9) voters.now }
+    ensures greatest { result ≡ greatest_below matched.now index 0 voters.now }
+    ensures below { result < index }
+{
+    let mut below = 0;
+    for voter in voters {
+        let own = matched[*voter as usize];
+        if own < index {
+            below = below.max(own);
+        }
+    }
+    below
+}

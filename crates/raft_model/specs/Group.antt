@@ -1,0 +1,164 @@
+-- A group: its replicas, which are up, the wire, what each has saved, and the one decided list. Source: dissertation chapter 3; the wire that keeps every envelope, what is saved when, and the refusals are this project's own.
+use Rattle.std.specs.Prelude.{ℕ, ◌+◌, ◌-◌, ◌==◌, ◌&&◌, List, [], ◌∷◌, ◌++◌, Bool, true, false, not, nat_lt, nat_le, length, take, drop, Option, Some, None, slice_get, if◌then◌else◌, zero, suc}
+use Rattle.std.specs.List.{list_any}
+use Rattle.host_ids.specs.declared.entry.Entry.{Entry}
+use Rattle.host_ids.specs.declared.entry.Key.{Key}
+use Rattle.wire_codec.specs.declared.envelope.Envelope.{Envelope}
+use Rattle.host_ids.specs.declared.entry.Batch.{Batch}
+use Rattle.raft_model.specs.declared.durable.Durable.{Durable}
+use Rattle.raft_model.specs.declared.input.Input.{Input}
+use Rattle.raft_model.specs.declared.input.Input.TheVariants as inputs
+use Rattle.raft_model.specs.declared.event.LaneEvent.{LaneEvent}
+use Rattle.raft_model.specs.declared.event.LaneEvent.TheVariants as events
+use Rattle.raft_model.specs.declared.event.LaneFault.{LaneFault}
+use Rattle.raft_model.specs.declared.event.LaneFault.TheVariants as faults
+use Rattle.raft_model.specs.declared.note.Note.{Note}
+use Rattle.raft_model.specs.declared.note.Note.TheVariants as notes
+use Rattle.raft_model.specs.Roster.{Seat}
+use Rattle.raft_model.specs.Log.{term_in}
+use Rattle.raft_model.specs.Replica.{Replica, Pending, fresh, ripe}
+use Rattle.raft_model.specs.Restarting.{restarted}
+use Rattle.raft_model.specs.Step.{Step, step, ready, after_ready, saved}
+
+pub record Group : Type 0 where
+  pub number : ℕ
+  pub voters : List ℕ
+  pub replicas : ℕ → Replica
+  pub up : ℕ → Bool
+  pub wire : List Envelope
+  pub saves : ℕ → Batch  -- what each has saved, as one batch of all kept entries
+  pub decided : List Entry
+  pub asks : List (Key × ℕ)  -- the decided list's length at the first asking of a read with a key
+
+abbrev pub upd : {A : Type 0} → (ℕ → A) → ℕ → A → ℕ → A
+upd f h x j = if j == h then x else f j
+
+abbrev pub nothing_saved : Batch
+nothing_saved = record { id = 0; term = 0; vote = 0; commit = 0; front = 0; front_term = 0; first = 1; entries = [] }
+
+abbrev pub fresh_group : ℕ → List ℕ → Group
+fresh_group number voters = record { number = number; voters = voters; replicas = λ h. fresh; up = λ h. true; wire = []; saves = λ h. nothing_saved; decided = []; asks = [] }
+
+abbrev pub seat : Group → ℕ → Seat
+seat g h = record { group = g.number; me = h; voters = g.voters }
+
+-- a replica whose commit index passes the list continues it by its own entries, where its log reaches down to the list's end
+abbrev pub continued : List Entry → Replica → List Entry
+continued d r =
+    if nat_lt (length d) r.commit && nat_le r.log.front (length d)
+    then d ++ take (r.commit - length d) (drop (length d - r.log.front) r.log.entries)
+    else d
+
+-- a replica becomes another, and envelopes go on the wire
+abbrev pub moved : Group → ℕ → Replica → List Envelope → Group
+moved g h r sent = record g { replicas = upd g.replicas h r; wire = g.wire ++ sent; decided = continued g.decided r }
+
+pub record Acted : Type 0 where
+  pub group : Group
+  pub notes : List Note
+  pub refused : Option LaneFault
+
+abbrev pub did : Group → List Note → Acted
+did g ns = record { group = g; notes = ns; refused = None }
+
+abbrev pub refuses : Group → LaneFault → Acted
+refuses g f = record { group = g; notes = []; refused = Some f }
+
+abbrev pub stepped : Group → ℕ → Step → Acted
+stepped g h s = did (moved g h s.replica s.sent) s.notes
+
+abbrev pub inputs_at : Group → ℕ → Input → Acted
+inputs_at g h input = stepped g h (step (seat g h) input (g.replicas h))
+
+abbrev pub is_member : Group → ℕ → Bool
+is_member g h = list_any (λ v. v == h) g.voters
+
+-- an event at a host of the roster that is up; else the refusal
+abbrev pub at_up : Group → ℕ → Acted → Acted
+at_up g h a = if not (is_member g h) then refuses g faults.NotMember else (if g.up h then a else refuses g faults.IsDown)
+
+abbrev pub readies : Group → ℕ → Acted
+readies g h = elim (ready (g.replicas h)) as (λ _. Acted) [
+  | None ↦ did g (notes.Idle ∷ [])
+  | Some b ↦ did (moved g h (after_ready (g.replicas h)) []) (notes.Pending h b.id ∷ [])
+]
+
+-- what is saved after a batch: its front, the old entries between that and its first one, and its own
+abbrev pub merged : Batch → Batch → Batch
+merged old b = record {
+  id = b.id;
+  term = b.term;
+  vote = b.vote;
+  commit = b.commit;
+  front = b.front;
+  front_term = b.front_term;
+  first = b.front + 1;
+  entries = take (b.first - b.front - 1) (drop (b.front - old.front) old.entries) ++ b.entries;
+}
+
+abbrev pub saves_batch : Group → ℕ → Pending → Acted
+saves_batch g h p = stepped (record g { saves = upd g.saves h (merged (g.saves h) p.batch) }) h (saved (seat g h) p (g.replicas h))
+
+abbrev pub saves_id : Group → ℕ → ℕ → Acted
+saves_id g h id = elim (g.replicas h).pending as (λ _. Acted) [
+  | None ↦ refuses g (faults.NotPending 0)
+  | Some p ↦ (if p.batch.id == id then saves_batch g h p else refuses g (faults.NotPending p.batch.id))
+]
+
+abbrev pub delivers : Group → Option Envelope → Acted
+delivers g None = refuses g faults.NoEnvelope
+delivers g (Some e) = at_up g e.to (inputs_at g e.to (inputs.Envelope e))
+
+abbrev pub envelope_at : List Envelope → ℕ → Option Envelope
+envelope_at wire zero = None
+envelope_at wire (suc k) = slice_get wire k
+
+abbrev pub is_key : Key → Key → Bool
+is_key a b = (a.host == b.host) && (a.start == b.start) && (a.serial == b.serial)
+
+abbrev pub noted_ask : Group → Key → Group
+noted_ask g key = if list_any (λ p. is_key p.0 key) g.asks then g else record g { asks = g.asks ++ (key, length g.decided) ∷ [] }
+
+abbrev pub compacts : Group → ℕ → ℕ → Acted
+compacts g h i = if nat_le i (ripe (g.replicas h)) then inputs_at g h (inputs.Compact i) else refuses g (faults.NotRipe (ripe (g.replicas h)))
+
+abbrev pub restarts : Group → ℕ → Durable → Acted
+restarts g h d =
+    if not (is_member g h) then refuses g faults.NotMember
+    else (if g.up h then refuses g faults.IsUp
+    else did (moved (record g { up = upd g.up h true; saves = upd g.saves h d.batch }) h (restarted d) []) [])
+
+unfoldable pub act : LaneEvent → Group → Acted
+act (events.Timeout h) g = at_up g h (inputs_at g h inputs.Timeout)
+act (events.Beat h) g = at_up g h (inputs_at g h inputs.Beat)
+act (events.Deliver k) g = delivers g (envelope_at g.wire k)
+act (events.Ready h) g = at_up g h (readies g h)
+act (events.Saved h id) g = at_up g h (saves_id g h id)
+act (events.Propose h key p) g = at_up g h (inputs_at g h (inputs.Propose key p))
+act (events.Ask h key) g = at_up g h (inputs_at (noted_ask g key) h (inputs.Ask key))
+act (events.Chunk h to c) g = at_up g h (inputs_at g h (inputs.Chunk to c))
+act (events.Compact h i) g = at_up g h (compacts g h i)
+act (events.Installed h i t) g = at_up g h (inputs_at g h (inputs.Installed i t))
+act (events.Down h) g = at_up g h (did (record g { up = upd g.up h false }) [])
+act (events.Restart h d) g = restarts g h d
+
+-- 0 with the term 0, or a place of the decided list with its term
+abbrev pub is_decided : List Entry → ℕ → ℕ → Bool
+is_decided d zero t = t == 0
+is_decided d (suc k) t = nat_lt k (length d) && (term_in d k == t)
+
+abbrev pub term_of : List Entry → ℕ → ℕ
+term_of d zero = 0
+term_of d (suc k) = term_in d k
+
+-- all notes of a list of events, and the group behind them
+pub record Ran : Type 0 where
+  pub group : Group
+  pub notes : List Note
+
+unfoldable pub run : List LaneEvent → Group → Ran
+run [] g = record { group = g; notes = [] }
+run (e ∷ es) g =
+    let a = act e g in
+    let more = run es a.group in
+    record { group = more.group; notes = a.notes ++ more.notes }

@@ -72,6 +72,17 @@ impl Entries {
         }
     }
 
+    /// These entries once more. The only error is want of memory.
+    pub fn from_slice(alloc: Global, entries: &[Entry]) -> Result<Entries, NoMemory>
+        ensures { IfOk result (λ copies. copies ≡ entries.now) }
+    {
+        let mut copies = Entries::new(alloc);
+        for entry in entries {
+            copies.push(entry.copy()?)?;
+        }
+        Ok(copies)
+    }
+
     /// The entries of a `Vec`, which takes no memory.
     pub fn from_vec(held: Vec<Entry>) -> Entries
         ensures { result ≡ held.items }
@@ -93,6 +104,17 @@ impl Entries {
         ensures { result.now ≡ self.now }
     {
         &self.held
+    }
+
+    /// All of them, after which none are left.
+    pub fn take(&mut self) -> Entries
+        ensures taken { result ≡ self.old }
+        ensures left { self.new ≡ [] }
+    {
+        let alloc = *self.held.allocator();
+        Entries {
+            held: std::mem::replace(&mut self.held, Vec::new(alloc)),
+        }
     }
 
     /// The entries in order, as a `Vec` of their owner's.

@@ -57,6 +57,8 @@ fn copies_have_the_same_contents(rt: HostRuntime) -> Result<(), Fail> {
         entries.push(entry)?;
     }
     assert_eq!(rt; entries.items().len(), 5);
+    let more = Entries::from_slice(alloc, entries.items())?;
+    assert!(rt; more.items() == entries.items());
     let held = entries.into_vec();
     assert_eq!(rt; held.len(), 5);
     assert_eq!(rt; Entries::from_vec(held).items().len(), 5);

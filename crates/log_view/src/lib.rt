@@ -1,8 +1,8 @@
 //! The log of a replica: entries behind a front.
 #![tactic(auto)]
 
-mod copies;
 mod log;
+mod ranges;
 
 pub use log::Log;
 

@@ -1,7 +1,7 @@
-ghost use Rattle.std.specs.Prelude.{◌≡◌, ◌≤◌, ◌<◌, ◌+◌, ◌^◌, length, IfOk, OnOk, OnErr};
-ghost use Rattle.raft_model.specs.Log.{empty, last, term_there, slice, append_after, cut_front, reset};
+ghost use Rattle.std.specs.Prelude.{◌≡◌, ◌≤◌, ◌<◌, ◌+◌, ◌-◌, ◌^◌, length, drop, IfOk, OnOk, OnErr};
+ghost use Rattle.log_view.specs.Log.{empty, last, term_at, term_there, slice, append_after, cut_front, reset};
 
-use crate::copies::{copies, some_from};
+use crate::ranges::some_from;
 use host_ids::{Entries, Entry, NoMemory};
 use std::alloc::Global;
 use std::marker::Model;
@@ -20,7 +20,7 @@ pub struct Log {
 
 impl Model for Log {
     ghost use Rattle.std.specs.Prelude.{◌<◌, ◌+◌, ◌^◌, length};
-    ghost use Rattle.raft_model.specs.Log.{Log as LogValue};
+    ghost use Rattle.log_view.specs.Log.{Log as LogValue};
 
     ghost Value = { LogValue };
 
@@ -68,6 +68,13 @@ impl Log {
         Some(self.held[(index - self.front - 1) as usize].term)
     }
 
+    /// The term at an index from front to last, 0 elsewhere: no entry has the term 0.
+    pub fn term_or_zero(&self, index: u64) -> u64
+        ensures { result ≡ term_at self.now index }
+    {
+        self.term_at(index).unwrap_or(0)
+    }
+
     /// The entries from `first` on, at most `most` of them; `first` lies from front + 1 to last + 1.
     /// It takes as long as what it copies. The only error is want of memory.
     pub fn slice(&self, first: u64, most: u64) -> Result<Entries, NoMemory>
@@ -77,7 +84,26 @@ impl Log {
     {
         let place = first - self.front - 1;
         let some = some_from(&self.held, place as usize, most as usize);
-        copies(*self.held.allocator(), some)
+        Entries::from_slice(*self.held.allocator(), some)
+    }
+
+    /// The entries from `first` on, all of them where `first` isn't behind the front.
+    pub fn tail(&self, first: u64) -> &[Entry]
+        ensures { result.now ≡ drop (first - self.now.front - 1) self.now.entries }
+    {
+        let place = first.saturating_sub(self.front).saturating_sub(1) as usize;
+        self.held.split_at(place.min(self.held.len())).1
+    }
+
+    /// All entries from `first` on, which lies from front + 1 to last + 1. It takes as long as what it
+    /// copies. The only error is want of memory.
+    pub fn rest(&self, first: u64) -> Result<Entries, NoMemory>
+        requires behind { self.now.front < first }
+        requires within { first ≤ last self.now + 1 }
+        ensures { IfOk result (λ es. es ≡ drop (first - self.now.front - 1) self.now.entries) }
+    {
+        let place = (first - self.front - 1) as usize;
+        Entries::from_slice(*self.held.allocator(), self.held.split_at(place).1)
     }
 
     /// The entries up to `index` stay, and these come behind them; `index` lies from front to last,

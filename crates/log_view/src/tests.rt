@@ -33,6 +33,8 @@ fn indices(rt: &impl Abort, log: &Log, first: u64, most: u64, wanted: &[u64]) ->
     for (entry, index) in some.items().iter().zip(wanted) {
         assert_eq!(rt; entry.index, *index);
     }
+    let rest = log.rest(first)?;
+    assert_eq!(rt; rest.items().len(), log.tail(first).len());
     Ok(())
 }
 

@@ -1,7 +1,7 @@
 -- How code tells where the laying of entries into a log begins.
 use Rattle.std.specs.Prelude.{ℕ, ◌+◌, List, drop, Option, Some, None}
 use Rattle.host_ids.specs.declared.entry.Entry.{Entry}
-use Rattle.raft_model.specs.Log.{Log, Laid, append_after}
+use Rattle.log_view.specs.Log.{Log, Laid, append_after}
 
 -- laid from the first place on whose entry isn't in the log, if there is one
 abbrev pub laid_from : Log → ℕ → List Entry → Option ℕ → Laid

@@ -1,5 +1,5 @@
 ghost use Rattle.std.specs.Prelude.{◌≡◌, ◌≤◌, ◌<◌, ◌+◌, ◌^◌, length, IfOk, OnErr};
-ghost use Rattle.raft_model.specs.Log.{last};
+ghost use Rattle.log_view.specs.Log.{last};
 ghost use Rattle.raft_model.specs.Appending.{lacks, takes};
 
 use crate::laying::lay;

@@ -1,7 +1,7 @@
 ghost use Rattle.std.specs.Prelude.{◌≡◌, ◌≤◌, ◌<◌, length, nat_le};
 ghost use Rattle.std.specs.List.{All};
 ghost use Rattle.raft_model.specs.Roster.{at, count, is_majority};
-ghost use Rattle.raft_model.specs.Log.{term_at};
+ghost use Rattle.log_view.specs.Log.{term_at};
 ghost use Rattle.raft_model.specs.Replica.{committed_by};
 ghost use Rattle.raft_append.specs.Matching.{greatest_below};
 
@@ -32,20 +32,13 @@ pub fn commit_candidate(
         let index = commit + left;
         if !has_majority(voters, &progress.matched, index) {
             left = matched_below(voters, &progress.matched, index).saturating_sub(commit);
-        } else if term_or_zero(log, index) == term {
+        } else if log.term_or_zero(index) == term {
             return index;
         } else {
             left -= 1;
         }
     }
     commit
-}
-
-/// The term at an index from front to last, 0 elsewhere.
-fn term_or_zero(log: &Log, index: u64) -> u64
-    ensures { result ≡ term_at log.now index }
-{
-    log.term_at(index).unwrap_or(0)
 }
 
 /// Whether a majority has matched an index.

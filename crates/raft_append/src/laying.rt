@@ -1,5 +1,5 @@
 ghost use Rattle.std.specs.Prelude.{◌≡◌, ◌≤◌, ◌<◌, ◌+◌, ◌^◌, length, drop, IfOk, OnErr, IfSome};
-ghost use Rattle.raft_model.specs.Log.{last, laid, is_kept};
+ghost use Rattle.log_view.specs.Log.{last, laid, is_kept};
 ghost use Rattle.raft_append.specs.Laying.{laid_from};
 
 use host_ids::{Entries, Entry, NoMemory};

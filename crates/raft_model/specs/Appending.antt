@@ -7,8 +7,9 @@ use Rattle.raft_model.specs.declared.progress.Appended.{Appended}
 use Rattle.raft_model.specs.declared.progress.Appended.TheVariants.{Refused, Stored}
 use Rattle.raft_model.specs.declared.progress.Progress.{Progress}
 use Rattle.raft_model.specs.Roster.{Seat, at}
-use Rattle.raft_model.specs.Log.{Log, last, term_at, laid}
-use Rattle.raft_model.specs.Replica.{Replica, Row, quiet, is_leader, sent, append_to, commit_rule, lowered}
+use Rattle.log_view.specs.Log.{Log, last, term_at, laid}
+use Rattle.raft_model.specs.declared.state.State.{State as Replica}
+use Rattle.raft_model.specs.Replica.{Row, quiet, is_leader, sent, append_to, commit_rule, lowered}
 
 -- the entry before the new ones is missing, or isn't of the given term; one below the front is decided and isn't compared
 abbrev pub lacks : Log → ℕ → ℕ → Bool

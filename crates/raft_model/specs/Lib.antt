@@ -1,5 +1,4 @@
 pub mod Roster
-pub mod Log
 pub mod Replica
 pub mod Voting
 pub mod Appending

@@ -4,7 +4,8 @@ use Rattle.host_ids.specs.declared.entry.Key.{Key}
 use Rattle.host_ids.specs.declared.proposal.Proposal.{Proposal}
 use Rattle.wire_codec.specs.declared.envelope.Body.TheVariants as kinds
 use Rattle.raft_model.specs.Roster.{Seat}
-use Rattle.raft_model.specs.Replica.{Replica, Row, quiet, notes_dropped, is_leader, is_full, sent_in, appended_to_all}
+use Rattle.raft_model.specs.declared.state.State.{State as Replica}
+use Rattle.raft_model.specs.Replica.{Row, quiet, notes_dropped, is_leader, is_full, sent_in, appended_to_all}
 
 -- | Propose{key, p} | Leader | append p with the key; AppendTo each other |
 -- | Propose | else, or full | nothing |

@@ -5,8 +5,9 @@ use Rattle.wire_codec.specs.declared.envelope.Body.TheVariants as kinds
 use Rattle.raft_model.specs.declared.read.OpenRead.{OpenRead}
 use Rattle.raft_model.specs.declared.note.Note.TheVariants as notes
 use Rattle.raft_model.specs.Roster.{Seat, at, is_majority}
-use Rattle.raft_model.specs.Log.{last, term_at}
-use Rattle.raft_model.specs.Replica.{Replica, Row, quiet, notes_idle, notes_dropped, is_leader, is_full, sent, sent_in, each_other}
+use Rattle.log_view.specs.Log.{last, term_at}
+use Rattle.raft_model.specs.declared.state.State.{State as Replica}
+use Rattle.raft_model.specs.Replica.{Row, quiet, notes_idle, notes_dropped, is_leader, is_full, sent, sent_in, each_other}
 use Rattle.raft_model.specs.Appending.{follows, more_to}
 
 -- | Beat | t < term | send BeatReply{0} |

@@ -1,64 +1,18 @@
 -- A replica, and the words that the rows of its step table share. Source: dissertation chapters 3 and 5; batches, and that envelopes are held until what they promise is saved, are this project's own.
-use Rattle.std.specs.Prelude.{ℕ, ◌+◌, ◌-◌, ◌^◌, ◌==◌, ◌||◌, ◌&&◌, List, [], ◌∷◌, ◌++◌, Bool, true, false, not, nat_lt, nat_le, min, Option, Some, None, slice_set, if◌then◌else◌, zero, suc}
+use Rattle.std.specs.Prelude.{ℕ, ◌+◌, ◌-◌, ◌^◌, ◌==◌, ◌||◌, ◌&&◌, List, [], ◌∷◌, ◌++◌, Bool, true, false, not, nat_lt, nat_le, min, Some, None, slice_set, if◌then◌else◌, zero, suc}
 use Rattle.host_ids.specs.declared.entry.Entry.{Entry}
 use Rattle.host_ids.specs.declared.entry.Key.{Key}
 use Rattle.host_ids.specs.declared.proposal.Proposal.{Proposal}
 use Rattle.host_ids.specs.declared.proposal.Proposal.TheVariants as proposals
-use Rattle.wire_codec.specs.declared.envelope.Envelope.{Envelope}
-use Rattle.raft_model.specs.declared.chunk.Chunk.{Chunk}
 use Rattle.wire_codec.specs.declared.envelope.Body.{Body}
 use Rattle.wire_codec.specs.declared.envelope.Body.TheVariants as kinds
-use Rattle.raft_model.specs.declared.role.Role.{Role}
 use Rattle.raft_model.specs.declared.role.Role.TheVariants.{Follower, Candidate, Leader}
-use Rattle.host_ids.specs.declared.entry.Batch.{Batch}
-use Rattle.raft_model.specs.declared.read.OpenRead.{OpenRead}
+use Rattle.raft_model.specs.declared.state.State.{State as Replica}
 use Rattle.raft_model.specs.declared.note.Note.{Note}
 use Rattle.raft_model.specs.declared.note.Note.TheVariants as notes
 use Rattle.raft_model.specs.Roster.{Seat, at, all_at, none_set, is_majority}
-use Rattle.raft_model.specs.Log
-use Rattle.raft_model.specs.Log.{Log, last, term_at, term_in, slice}
-
--- a batch that is being saved, with the envelopes that wait for it
-pub record Pending : Type 0 where
-  pub batch : Batch
-  pub envelopes : List Envelope
-
--- a received snapshot, with its sender and its number of chunks
-pub record Inbox : Type 0 where
-  pub index : ℕ
-  pub term : ℕ
-  pub bytes : List ℕ
-  pub sender : ℕ
-  pub count : ℕ
-
--- what the last batch that was taken says besides its entries
-pub record Taken : Type 0 where
-  pub term : ℕ
-  pub vote : ℕ
-  pub commit : ℕ
-  pub front : ℕ
-
-pub record Replica : Type 0 where
-  pub term : ℕ
-  pub vote : ℕ  -- 0 is none
-  pub log : Log
-  pub commit : ℕ
-  pub role : Role
-  pub leader : ℕ  -- 0 is unknown
-  pub granted : List Bool  -- the voters that gave their vote
-  pub next : List ℕ  -- the next index to send, for each voter
-  pub matched : List ℕ  -- up to where each voter's log is known to agree
-  pub round : ℕ
-  pub answered : List ℕ  -- the greatest round that each voter answered
-  pub reads : List OpenRead
-  pub stable : ℕ  -- the last index that is saved
-  pub from : ℕ  -- the least index that changed since the last batch was taken, else last + 1
-  pub pending : Option Pending
-  pub held : List Envelope
-  pub assembly : List Chunk  -- the pieces of a snapshot that are in hand
-  pub inbox : Option Inbox
-  pub taken : Taken
-  pub batches : ℕ  -- the number of the last batch that was taken, 0 before the first
+use Rattle.log_view.specs.Log
+use Rattle.log_view.specs.Log.{Log, last, term_at, term_in, slice}
 
 -- a replica that has just begun
 abbrev pub fresh : Replica

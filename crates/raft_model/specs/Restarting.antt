@@ -2,9 +2,10 @@
 use Rattle.std.specs.Prelude.{ℕ, ◌^◌, ◌+◌, ◌&&◌, Bool, not, nat_lt, nat_le, max, if◌then◌else◌}
 use Rattle.host_ids.specs.declared.entry.Batch.{Batch}
 use Rattle.raft_model.specs.declared.durable.Durable.{Durable}
-use Rattle.raft_model.specs.Log.{Log, last, reset}
+use Rattle.log_view.specs.Log.{Log, last, reset}
 use Rattle.raft_model.specs.Snapping.{stays}
-use Rattle.raft_model.specs.Replica.{Replica, fresh}
+use Rattle.raft_model.specs.declared.state.State.{State as Replica}
+use Rattle.raft_model.specs.Replica.{fresh}
 
 abbrev pub log_of : Batch → Log
 log_of b = record { front = b.front; front_term = b.front_term; entries = b.entries }

@@ -10,8 +10,8 @@ use Rattle.raft_model.specs.declared.chunk.Chunk.{Chunk}
 use Rattle.raft_model.specs.declared.durable.Durable.{Durable}
 use Rattle.raft_model.specs.declared.role.Role.{Role}
 use Rattle.raft_model.specs.Roster.{at}
-use Rattle.raft_model.specs.Replica.{Replica}
-use Rattle.raft_model.specs.Group.{Group}
+use Rattle.raft_model.specs.declared.state.State.{State as Replica}
+use Rattle.raft_model.specs.Group.{Group, replica_at}
 
 abbrev pub key : ℕ → ℕ → ℕ → Key
 key host start serial = record { host = host; start = start; serial = serial }
@@ -69,4 +69,4 @@ digest voters r = record {
 }
 
 abbrev pub digests : Group → List Digest
-digests g = map (λ h. digest g.voters (g.replicas h)) g.voters
+digests g = map (λ h. digest g.voters (replica_at g h)) g.voters

@@ -1,11 +1,13 @@
 -- The rows of SnapChunk, SnapReply, the sending of a chunk, Compact and Installed, and the assembly of chunks. Source: dissertation chapter 5; chunks and their replies are this project's own.
-use Rattle.std.specs.Prelude.{ℕ, ◌+◌, ◌-◌, ◌==◌, ◌&&◌, List, [], ◌∷◌, ◌++◌, Bool, true, false, not, nat_lt, nat_le, min, max, length, Option, Some, None, if◌then◌else◌}
+use Rattle.std.specs.Prelude.{ℕ, ◌+◌, ◌==◌, ◌&&◌, List, [], ◌∷◌, ◌++◌, Bool, true, false, not, nat_lt, nat_le, max, length, Option, Some, None, if◌then◌else◌}
 use Rattle.std.specs.List.{flat_map}
 use Rattle.raft_model.specs.declared.chunk.Chunk.{Chunk}
 use Rattle.wire_codec.specs.declared.envelope.Body.TheVariants as kinds
 use Rattle.raft_model.specs.Roster.{Seat}
-use Rattle.raft_model.specs.Log.{Log, last, term_at, cut_front, reset}
-use Rattle.raft_model.specs.Replica.{Replica, Inbox, Row, quiet, is_leader, is_follower, ripe, sent, sent_in}
+use Rattle.log_view.specs.Log.{Log, last, term_at, cut_front, reset}
+use Rattle.raft_model.specs.declared.state.State.{State as Replica}
+use Rattle.raft_model.specs.declared.state.Inbox.{Inbox}
+use Rattle.raft_model.specs.Replica.{Row, quiet, is_leader, is_follower, ripe, sent, sent_in}
 use Rattle.raft_model.specs.Appending.{follows, more_to, reached, progress, with_progress}
 
 -- two chunks are of one series
@@ -79,7 +81,7 @@ stays l i t = nat_le i (last l) && (term_at l i == t)
 -- the log begins behind the snapshot, with the entries that stayed or with none
 abbrev pub based : ℕ → ℕ → Replica → Replica
 based i t r =
-    if stays r.log i t then record r { log = cut_front r.log i; commit = i; stable = min (max r.stable i) (max r.from (i + 1) - 1); from = max r.from (i + 1) }
+    if stays r.log i t then record r { log = cut_front r.log i; commit = i; stable = max r.stable i; from = max r.from (i + 1) }
     else record r { log = reset i t; commit = i; stable = i; from = i + 1 }
 
 -- the sender of the snapshot hears that it is there

@@ -8,7 +8,9 @@ use Rattle.raft_model.specs.declared.input.Input.{Input}
 use Rattle.raft_model.specs.declared.input.Input.TheVariants as inputs
 use Rattle.raft_model.specs.declared.note.Note.{Note}
 use Rattle.raft_model.specs.Roster.{Seat}
-use Rattle.raft_model.specs.Replica.{Replica, Pending, Row, in_term, may_release}
+use Rattle.raft_model.specs.declared.state.State.{State as Replica}
+use Rattle.raft_model.specs.declared.state.Pending.{Pending}
+use Rattle.raft_model.specs.Replica.{Row, in_term, may_release}
 use Rattle.raft_model.specs.Voting.{on_timeout, on_vote, on_vote_reply}
 use Rattle.raft_model.specs.Appending.{on_append, on_append_reply}
 use Rattle.raft_model.specs.Reading.{on_beat, on_beat_reply, on_read_ask, on_read_answer, on_script_beat, on_ask}

@@ -4,8 +4,9 @@ use Rattle.wire_codec.specs.declared.envelope.Body.TheVariants as kinds
 use Rattle.raft_model.specs.declared.election.Election.{Election}
 use Rattle.raft_model.specs.declared.role.Role.TheVariants.{Candidate}
 use Rattle.raft_model.specs.Roster.{Seat, is_set, none_set, is_majority}
-use Rattle.raft_model.specs.Log.{last, last_term}
-use Rattle.raft_model.specs.Replica.{Replica, Row, quiet, notes_idle, is_leader, is_candidate, is_full, sent, each_other, lead}
+use Rattle.log_view.specs.Log.{last, last_term}
+use Rattle.raft_model.specs.declared.state.State.{State as Replica}
+use Rattle.raft_model.specs.Replica.{Row, quiet, notes_idle, is_leader, is_candidate, is_full, sent, each_other, lead}
 
 -- what of a replica its votes hang on: the end of its log among it
 abbrev pub election : Replica → Election

@@ -4,6 +4,7 @@
 #![tactic(auto)]
 
 mod chunk;
+mod chunks;
 mod durable;
 mod election;
 mod event;
@@ -12,9 +13,12 @@ mod laws;
 mod note;
 mod progress;
 mod read;
+mod reads;
 mod role;
+mod state;
 
 pub use chunk::Chunk;
+pub use chunks::Chunks;
 pub use durable::Durable;
 pub use election::Election;
 pub use event::{LaneEvent, LaneFault};
@@ -26,4 +30,6 @@ pub use laws::{
 pub use note::Note;
 pub use progress::{Appended, Progress};
 pub use read::OpenRead;
+pub use reads::OpenReads;
 pub use role::Role;
+pub use state::{Inbox, Pending, State, Taken};

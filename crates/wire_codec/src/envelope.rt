@@ -1,4 +1,7 @@
-use host_ids::{Entries, Key, Proposal, Text};
+ghost use Rattle.std.specs.Prelude.{◌≡◌, IfOk};
+
+use host_ids::{Entries, Key, NoMemory, Proposal, Text};
+use std::alloc::Global;
 
 /// A message from one replica of a group to another.
 ///
@@ -110,4 +113,83 @@ pub enum Body {
         /// The index from which on the read may be answered.
         index: u64,
     },
+}
+
+impl Envelope {
+    /// Another envelope of the same contents. The only error is want of memory.
+    pub fn copy(&self, alloc: Global) -> Result<Envelope, NoMemory>
+        ensures { IfOk result (λ copy. copy ≡ self.now) }
+    {
+        Ok(Envelope {
+            from: self.from,
+            to: self.to,
+            group: self.group,
+            term: self.term,
+            body: self.body.copy(alloc)?,
+        })
+    }
+}
+
+impl Body {
+    /// Another body of the same contents. The only error is want of memory.
+    pub fn copy(&self, alloc: Global) -> Result<Body, NoMemory>
+        ensures { IfOk result (λ copy. copy ≡ self.now) }
+    {
+        match self {
+            Body::Vote { last, last_term } => Ok(Body::Vote {
+                last: *last,
+                last_term: *last_term,
+            }),
+            Body::VoteReply { granted } => Ok(Body::VoteReply { granted: *granted }),
+            Body::Append {
+                prev,
+                prev_term,
+                commit,
+                entries,
+            } => Ok(Body::Append {
+                prev: *prev,
+                prev_term: *prev_term,
+                commit: *commit,
+                entries: Entries::from_slice(alloc, entries.items())?,
+            }),
+            Body::AppendReply { ok, index } => Ok(Body::AppendReply {
+                ok: *ok,
+                index: *index,
+            }),
+            Body::Beat { commit, round } => Ok(Body::Beat {
+                commit: *commit,
+                round: *round,
+            }),
+            Body::BeatReply { round } => Ok(Body::BeatReply { round: *round }),
+            Body::SnapChunk {
+                index,
+                last_term,
+                number,
+                count,
+                size,
+                bytes,
+            } => Ok(Body::SnapChunk {
+                index: *index,
+                last_term: *last_term,
+                number: *number,
+                count: *count,
+                size: *size,
+                bytes: bytes.copy()?,
+            }),
+            Body::SnapReply { index, want, whole } => Ok(Body::SnapReply {
+                index: *index,
+                want: *want,
+                whole: *whole,
+            }),
+            Body::Propose { key, proposal } => Ok(Body::Propose {
+                key: *key,
+                proposal: proposal.copy()?,
+            }),
+            Body::ReadAsk { key } => Ok(Body::ReadAsk { key: *key }),
+            Body::ReadAnswer { key, index } => Ok(Body::ReadAnswer {
+                key: *key,
+                index: *index,
+            }),
+        }
+    }
 }

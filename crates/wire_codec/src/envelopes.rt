@@ -48,6 +48,13 @@ impl Envelopes {
         &self.held
     }
 
+    /// The envelopes in order, as a `Vec` of their owner's.
+    pub fn into_vec(self) -> Vec<Envelope>
+        ensures { result.items ≡ self }
+    {
+        self.held
+    }
+
     /// All of them, after which none are left.
     pub fn take(&mut self) -> Envelopes
         ensures taken { result ≡ self.old }

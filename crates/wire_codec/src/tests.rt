@@ -61,9 +61,14 @@ fn envelopes_stay_in_order(rt: HostRuntime) -> Result<(), Fail> {
     first.join(&mut more)?;
     terms(&rt, &more, &[])?;
     terms(&rt, &first, &[1, 2, 3])?;
+    for envelope in first.items() {
+        let copy = envelope.copy(alloc)?;
+        assert_eq!(rt; copy.term, envelope.term);
+    }
     let taken = first.take();
     terms(&rt, &first, &[])?;
     terms(&rt, &taken, &[1, 2, 3])?;
     assert!(rt; matches!(&taken.items()[2].body, Body::VoteReply { granted: true }));
+    assert_eq!(rt; taken.into_vec().len(), 3);
     Ok(())
 }

@@ -1,5 +1,5 @@
 use Rattle.std.proofs.Common.{◌≡◌, ◌≤◌, ◌-◌}
-use Rattle.raft_model.specs.Log.{last}
+use Rattle.log_view.specs.Log.{last}
 use Rattle.raft_model.specs.Replica.{greatest, may_commit}
 use Rattle.raft_append.proofs.commit.commit_candidate.Given as goal
 

@@ -1,5 +1,5 @@
 use Rattle.std.proofs.Common.{◌≡◌, ◌≤◌, ◌+◌, drop}
-use Rattle.raft_model.specs.Log.{laid, last}
+use Rattle.log_view.specs.Log.{laid, last}
 use Rattle.raft_append.proofs.laying.first_new.Given as goal
 
 abbrev pub invariant-loop-entry : goal.invariant-loop-entry

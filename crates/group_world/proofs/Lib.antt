@@ -1,0 +1,3 @@
+mod Tables
+mod Events
+mod Refused

@@ -1,0 +1,6 @@
+mod Kept
+mod Votes
+mod Logs
+mod Mail
+mod Steps
+mod Waits

@@ -1,0 +1,4 @@
+pub mod Notes
+pub mod Marks
+pub mod Range
+pub mod Core

@@ -2,6 +2,7 @@ ghost use Rattle.std.specs.Prelude.{◌≡◌, ◌≤◌, ◌<◌, ◌+◌, ◌-
 ghost use Rattle.std.specs.List.{All};
 ghost use Rattle.std.specs.Option.{option_copied, option_map};
 ghost use Rattle.log_view.specs.Log.{last, slice, term_there};
+ghost use Rattle.raft_model.specs.Fit.{are_fit};
 ghost use Rattle.raft_model.specs.Replica.{is_changed, ripe};
 ghost use Rattle.raft_model.specs.Saving.{is_stuck};
 ghost use Rattle.raft_model.specs.Group.{act, fresh_group, replica_at, envelope_at, is_member};
@@ -24,9 +25,9 @@ use wire_codec::Envelope;
 /// what each replica has saved, and the one decided list.
 ///
 /// Clauses see it as the group of the definitions. After want of memory a lane is only to be dropped:
-/// `act` answers want of memory to all that it doesn't refuse from then on. Source: dissertation
-/// chapter 3; the wire that keeps every envelope, what is saved when, and the refusals are this
-/// project's own.
+/// `act` answers want of memory to all that it doesn't refuse from then on, and so does `entries`.
+/// Source: dissertation chapter 3; the wire that keeps every envelope, what is saved when, and the
+/// refusals are this project's own.
 #[derive(Drop)]
 pub struct Lane {
     world: World,
@@ -55,8 +56,9 @@ impl Lane {
     /// the order of the definitions, and a refused event changes nothing. The only other error is
     /// want of memory; then the lane is only to be dropped.
     ///
-    /// A piece's term and index are at most 2^62, its number and its count below 2^32-1. An Installed
-    /// has the index of the received snapshot. A host can't be started again yet.
+    /// A proposal's client is at least 1, its series 1 to 2^64-3 and its responded value at most
+    /// 2^64-3. A piece's term and index are at most 2^62, its number and its count below 2^32-1. An
+    /// Installed has the index of the received snapshot. A host can't be started again yet.
     pub fn act(&mut self, event: LaneEvent) -> Result<Vec<Note>, LaneFault>
         requires given { IsGiven self.old event }
         ensures refused { IfSome (act event self.old).refused (λ fault. result ≡ Err fault) }
@@ -105,14 +107,14 @@ impl Lane {
     pub fn newest(&self) -> u64
         ensures { result ≡ length self.now.wire }
     {
-        self.world.wire.len() as u64
+        self.world.wire.envelopes().len() as u64
     }
 
     /// The envelope of a number, from 1 in the order of sending; `None` exactly where there is none.
     pub fn envelope(&self, number: u64) -> Option<&Envelope>
         ensures { option_copied result ≡ envelope_at self.now.wire number }
     {
-        envelope_of(&self.world.wire, number)
+        envelope_of(self.world.wire.envelopes(), number)
     }
 
     /// The decided list's entries from `index`, at least 1, on, at most `most` of them. It takes as
@@ -195,6 +197,16 @@ impl Lane {
         }
     }
 
+    /// The last index of the log of a host, a voter.
+    pub fn last(&self, host: u8) -> u64
+        ensures { result ≡ last (replica_at self.now host).log }
+    {
+        match some_replica(&self.world, host) {
+            None => 0,
+            Some(replica) => replica.log().last(),
+        }
+    }
+
     /// The term at an index of the log of a host, a voter; `None` exactly where the index is below its
     /// front or above its last.
     pub fn term_at(&self, host: u8, index: u64) -> Option<u64>
@@ -207,15 +219,21 @@ impl Lane {
     }
 
     /// The entries of the log of a host, a voter, from `first` on, at most `most` of them; `first`
-    /// lies from front + 1 to last + 1. It takes as long as what it copies. The only error is want
-    /// of memory.
+    /// lies from front + 1 to last + 1. Of each entry's proposal the client is at least 1, the series 1
+    /// to 2^64-3 and the responded value at most 2^64-3, where it has them. It takes as long as what
+    /// it copies. The only error is want of memory.
     pub fn entries(&self, host: u8, first: u64, most: u64) -> Result<Entries, NoMemory>
         requires behind { (replica_at self.now host).log.front < first }
         requires within { first ≤ last (replica_at self.now host).log + 1 }
-        ensures { IfOk result (λ entries. entries ≡ slice (replica_at self.now host).log first most) }
+        ensures entries { IfOk result (λ entries. entries ≡ slice (replica_at self.now host).log first most) }
+        ensures fit { IfOk result (λ entries. are_fit entries ≡ true) }
     {
+        if self.broken {
+            return Err(NoMemory);
+        }
+        have_fit_numbers(&self.world, host, first, most);
         match some_replica(&self.world, host) {
-            None => Ok(Entries::new(*self.world.wire.allocator())),
+            None => Ok(Entries::new(self.world.wire.alloc())),
             Some(replica) => replica.log().slice(first, most),
         }
     }
@@ -228,6 +246,12 @@ impl Lane {
         true
     }
 }
+
+/// The numbers of the proposals in a replica's log are in their ranges.
+fn have_fit_numbers(w: &World, host: u8, first: u64, most: u64)
+    requires { Sound w.now }
+    ensures { are_fit (slice (replica_at (group_of w.now) host).log first most) ≡ true }
+{}
 
 /// Why an event is refused, if so, by the group's event.
 #[tactic(auto, using(crate::proofs::Refused::refused_is))]

@@ -12,7 +12,9 @@ use Rattle.wire_codec.specs.declared.envelope.Body.TheVariants as kinds
 use Rattle.raft_model.specs.Roster.{Seat, at, none_set}
 use Rattle.log_view.specs.Log.{Log, last, term_at, slice}
 use Rattle.raft_model.specs.Replica.{each_other, append_to, sent, appended, appended_to_all, own_entry, in_term, is_candidate, is_leader, greatest, may_commit, commit_rule}
+use Rattle.raft_model.specs.Fit.{is_fit}
 use Rattle.raft_core.specs.Range.{InRange, Places}
+use Rattle.raft_core.proofs.Fits.{fit_push}
 
 -- ---- sending
 
@@ -54,14 +56,14 @@ lowered_kept candidate l m commit stable from i p e above within c short room = 
 longer : (r : Replica) (e : Entry) → r.log.front + length (r.log.entries ++ e ∷ []) ≡ last r.log + 1
 longer r e = let k = length-append r.log.entries (e ∷ []) in omega (arith, k)
 
-pub appended_kept : (key : Key) (p : Proposal) (r : Replica) → InRange r → last r.log < 2 ^ 62 → is_candidate r ≡ false → InRange (appended key p r)
-appended_kept key p r h short role =
+pub appended_kept : (key : Key) (p : Proposal) (r : Replica) → InRange r → last r.log < 2 ^ 62 → is_candidate r ≡ false → is_fit p ≡ true → InRange (appended key p r)
+appended_kept key p r h short role fit =
     let q = h.1 in
     let e = longer r (own_entry r key p) in
-    (h.0, lowered_kept (is_candidate r) r.log (record r.log { entries = r.log.entries ++ own_entry r key p ∷ [] }) r.commit r.stable r.from (last r.log + 1) q refl (omega arith) (omega (arith, e)) (omega (arith, e, q.committed)) (omega (arith, e, short)) (λ c. absurd (cc (c, role))), h.2)
+    (h.0, lowered_kept (is_candidate r) r.log (record r.log { entries = r.log.entries ++ own_entry r key p ∷ [] }) r.commit r.stable r.from (last r.log + 1) q refl (omega arith) (omega (arith, e)) (omega (arith, e, q.committed)) (omega (arith, e, short)) (λ c. absurd (cc (c, role))), h.2, fit_push r.log.entries (own_entry r key p) h.3 fit)
 
-pub to_all_kept : (s : Seat) (key : Key) (p : Proposal) (r : Replica) → InRange r → last r.log < 2 ^ 62 → is_candidate r ≡ false → InRange (appended_to_all s key p r)
-to_all_kept s key p r h short role = each_kept s.me (append_to s) (append_to_kept s) s.voters (appended key p r) (appended_kept key p r h short role)
+pub to_all_kept : (s : Seat) (key : Key) (p : Proposal) (r : Replica) → InRange r → last r.log < 2 ^ 62 → is_candidate r ≡ false → is_fit p ≡ true → InRange (appended_to_all s key p r)
+to_all_kept s key p r h short role fit = each_kept s.me (append_to s) (append_to_kept s) s.voters (appended key p r) (appended_kept key p r h short role fit)
 
 -- ---- terms
 
@@ -72,6 +74,7 @@ in_term_kept t r short h =
       record { term_short = short; round_short = h.0.round_short; batches_short = h.0.batches_short },
       record { last_short = h.1.last_short; may_lead = λ c. absurd (cc c); front_committed = h.1.front_committed; committed = h.1.committed; front_saved = h.1.front_saved; saved = h.1.saved; changed = h.1.changed },
       h.2,
+      h.3,
     ))
     (λ _. h)
 
@@ -89,4 +92,4 @@ pub commit_kept : (s : Seat) (r : Replica) → InRange r → InRange (commit_rul
 commit_kept s r h =
     let a = low_greatest (may_commit s.voters r.matched r.log r.term) r.commit (last r.log - r.commit) in
     let b = high_greatest (may_commit s.voters r.matched r.log r.term) r.commit (last r.log - r.commit) in
-    (h.0, record { last_short = h.1.last_short; may_lead = h.1.may_lead; front_committed = omega (arith, a, h.1.front_committed); committed = omega (arith, b, h.1.committed); front_saved = h.1.front_saved; saved = h.1.saved; changed = h.1.changed }, h.2)
+    (h.0, record { last_short = h.1.last_short; may_lead = h.1.may_lead; front_committed = omega (arith, a, h.1.front_committed); committed = omega (arith, b, h.1.committed); front_saved = h.1.front_saved; saved = h.1.saved; changed = h.1.changed }, h.2, h.3)

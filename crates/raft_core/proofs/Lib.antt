@@ -1,3 +1,4 @@
+mod Fits
 mod Kept
 mod Votes
 mod Logs

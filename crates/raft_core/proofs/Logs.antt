@@ -22,7 +22,9 @@ use Rattle.raft_model.specs.Snapping.{Took, belongs, is_next, is_first, counted_
 use Rattle.raft_core.specs.declared.saving.Mark.{Mark}
 use Rattle.raft_model.specs.Voting.{granted_by}
 use Rattle.raft_core.specs.Marks.{stabilised_by, own_vote_by, counts_own_by, saved_by}
+use Rattle.raft_model.specs.Fit.{are_fit}
 use Rattle.raft_core.specs.Range.{InRange, IsReceived}
+use Rattle.raft_core.proofs.Fits.{fit_drop, fit_laid}
 use Rattle.raft_core.proofs.Kept.{append_to_kept, lowered_kept, commit_kept}
 use Rattle.raft_core.proofs.Votes.{follows_kept, more_kept, granted_kept}
 
@@ -72,9 +74,9 @@ laid_lies l commit prev (e ∷ es) front committed short up fits =
     })
 
 -- the log and the commit index after entries were laid into the log
-stored_kept : (s : Seat) (from prev c : ℕ) (es : List Entry) (r : Replica) (w : Laid) → InRange r → is_candidate r ≡ false → Lies r.log r.commit (prev + length es) w
+stored_kept : (s : Seat) (from prev c : ℕ) (es : List Entry) (r : Replica) (w : Laid) → InRange r → is_candidate r ≡ false → Lies r.log r.commit (prev + length es) w → are_fit w.log.entries ≡ true
     → InRange (answers_append s from c (Stored (max r.log.front (prev + length es)) w.changed_from) (record r { log = w.log })).replica
-stored_kept s from prev c es r w h role lies =
+stored_kept s from prev c es r w h role lies fit =
     let p = h.1 in
     elim w.changed_from as (λ o. MatchOption o (w.log ≡ r.log) (λ i. (r.commit < i) × (i ≤ last w.log)) → InRange (answers_append s from c (Stored (max r.log.front (prev + length es)) o) (record r { log = w.log })).replica) [
       | None ↦ λ same. (
@@ -89,6 +91,7 @@ stored_kept s from prev c es r w h role lies =
           changed = subst (λ l. r.from ≤ last l + 1) (sym same) p.changed;
         },
         h.2,
+        fit,
       )
       | Some i ↦ λ at_i.
           let q = lowered_kept (is_candidate r) r.log w.log r.commit r.stable r.from i p lies.front (omega (arith, p.front_committed, at_i.0)) (omega (arith, at_i.1)) lies.committed lies.short (λ k. absurd (cc (k, role))) in (
@@ -103,25 +106,26 @@ stored_kept s from prev c es r w h role lies =
               changed = q.changed;
             },
             h.2,
+            fit,
           )
     ]
     lies.from
 
-takes_kept : (s : Seat) (from prev pt c : ℕ) (es : List Entry) (r : Replica) → InRange r → is_candidate r ≡ false → prev + length es ≤ 2 ^ 62 → InRange (takes_append s from prev pt c es r).replica
-takes_kept s from prev pt c es r h role fits =
+takes_kept : (s : Seat) (from prev pt c : ℕ) (es : List Entry) (r : Replica) → InRange r → is_candidate r ≡ false → prev + length es ≤ 2 ^ 62 → are_fit es ≡ true → InRange (takes_append s from prev pt c es r).replica
+takes_kept s from prev pt c es r h role fits fit =
     let p = h.1 in
     cond_both (lacks r.log prev pt) (refused r.log prev) (stored r.log r.commit prev es) (λ (w : AppendTook). InRange (answers_append s from c w.outcome (record r { log = w.log })).replica)
     (λ _. h)
     (λ e.
     let a = (or_parts (nat_lt (last r.log) prev) (nat_le r.log.front prev && not (term_at r.log prev == pt)) e).0 in
     let up : prev ≤ last r.log = grind (arith, nat_tests) in
-    stored_kept s from prev c es r (laid r.log r.commit prev es) h role (laid_lies r.log r.commit prev es p.front_committed p.committed p.last_short up fits))
+    stored_kept s from prev c es r (laid r.log r.commit prev es) h role (laid_lies r.log r.commit prev es p.front_committed p.committed p.last_short up fits) (fit_laid r.log r.commit prev es h.3 fit))
 
-pub append_kept : (s : Seat) (from t prev pt c : ℕ) (es : List Entry) (r : Replica) → InRange r → prev + length es ≤ 2 ^ 62 → InRange (on_append s from t prev pt c es r).replica
-append_kept s from t prev pt c es r h fits =
+pub append_kept : (s : Seat) (from t prev pt c : ℕ) (es : List Entry) (r : Replica) → InRange r → prev + length es ≤ 2 ^ 62 → are_fit es ≡ true → InRange (on_append s from t prev pt c es r).replica
+append_kept s from t prev pt c es r h fits fit =
     cond_both (nat_lt t r.term) (quiet (sent s from (kinds.AppendReply false 0) r)) (if is_leader r then quiet r else takes_append s from prev pt c es (follows from r)) (λ w. InRange w.replica)
     (λ _. h)
-    (λ _. cond_both (is_leader r) (quiet r) (takes_append s from prev pt c es (follows from r)) (λ w. InRange w.replica) (λ _. h) (λ _. takes_kept s from prev pt c es (follows from r) (follows_kept from r h) refl fits))
+    (λ _. cond_both (is_leader r) (quiet r) (takes_append s from prev pt c es (follows from r)) (λ w. InRange w.replica) (λ _. h) (λ _. takes_kept s from prev pt c es (follows from r) (follows_kept from r h) refl fits fit))
 
 -- what is known of a voter after its answer
 pub at_short : (matched : List ℕ) (v : ℕ) → All (λ i. i ≤ 2 ^ 62) matched → at matched v ≤ 2 ^ 62
@@ -142,6 +146,7 @@ heard_kept from i ok r h short =
         hand_short = k.hand_short;
         received = k.received;
       },
+      h.3,
     ))
     (λ _. h)
 
@@ -171,12 +176,13 @@ given_kept r h =
       record { term_short = h.0.term_short; round_short = h.0.round_short; batches_short = cond_both (r.batches == 2 ^ 62) 1 (r.batches + 1) (λ n. n ≤ 2 ^ 62) (λ _. omega arith) (λ e. let b = h.0.batches_short in grind (arith, nat_tests)) },
       record { last_short = p.last_short; may_lead = p.may_lead; front_committed = p.front_committed; committed = p.committed; front_saved = p.front_saved; saved = omega (arith, p.saved, p.changed); changed = omega arith },
       record { matched_short = k.matched_short; in_place = (omega (arith, p.front_saved, p.saved), omega (arith, d, p.front_saved, p.saved, p.changed, p.last_short)); hand_short = k.hand_short; received = k.received },
+      h.3,
     )
 
 pub stabilised_kept : (m : Mark) (r : Replica) → InRange r → InRange (stabilised_by m r)
 stabilised_kept m r h =
     let p = h.1 in
-    (h.0, record { last_short = p.last_short; may_lead = p.may_lead; front_committed = p.front_committed; committed = p.committed; front_saved = omega arith; saved = omega (arith, p.front_saved, p.saved); changed = p.changed }, h.2)
+    (h.0, record { last_short = p.last_short; may_lead = p.may_lead; front_committed = p.front_committed; committed = p.committed; front_saved = omega arith; saved = omega (arith, p.front_saved, p.saved); changed = p.changed }, h.2, h.3)
 
 pub own_vote_kept : (m : Mark) (s : Seat) (r : Replica) → InRange r → InRange (own_vote_by m s r).replica
 own_vote_kept m s r h =
@@ -190,11 +196,11 @@ own_match_kept s r h =
     let k = h.2 in
     let q = record r { matched = slice_set r.matched s.me r.stable } in
     cond_both (is_leader r) (commit_rule s q) r (λ x. InRange x)
-    (λ _. commit_kept s q (h.0, h.1, record { matched_short = All-set (λ j. j ≤ 2 ^ 62) r.matched s.me r.stable (omega (arith, p.saved, p.changed, p.last_short)) k.matched_short; in_place = k.in_place; hand_short = k.hand_short; received = k.received }))
+    (λ _. commit_kept s q (h.0, h.1, record { matched_short = All-set (λ j. j ≤ 2 ^ 62) r.matched s.me r.stable (omega (arith, p.saved, p.changed, p.last_short)) k.matched_short; in_place = k.in_place; hand_short = k.hand_short; received = k.received }, h.3))
     (λ _. h)
 
 unpending : (r : Replica) → InRange r → InRange (record r { pending = None })
-unpending r h = (h.0, h.1, record { matched_short = h.2.matched_short; in_place = tt; hand_short = h.2.hand_short; received = h.2.received })
+unpending r h = (h.0, h.1, record { matched_short = h.2.matched_short; in_place = tt; hand_short = h.2.hand_short; received = h.2.received }, h.3)
 
 pub saved_kept : (m : Mark) (s : Seat) (r : Replica) → InRange r → InRange (saved_by m s r).replica
 saved_kept m s r h =
@@ -207,8 +213,8 @@ counted_kept : (s : Seat) (from : ℕ) (hand : List Chunk) (c : Chunk) (r : Repl
 counted_kept s from hand c r h few count short =
     let k = h.2 in
     cond_both (c.number == c.count) (record { hand = []; whole = Some (flat_map (λ b. b.bytes) hand); want = 1 }) (record { hand = hand; whole = None; want = c.number + 1 }) (λ w. InRange (after_take s from c w r))
-    (λ _. (h.0, h.1, record { matched_short = k.matched_short; in_place = k.in_place; hand_short = omega arith; received = (count, short) }))
-    (λ _. (h.0, h.1, record { matched_short = k.matched_short; in_place = k.in_place; hand_short = few; received = k.received }))
+    (λ _. (h.0, h.1, record { matched_short = k.matched_short; in_place = k.in_place; hand_short = omega arith; received = (count, short) }, h.3))
+    (λ _. (h.0, h.1, record { matched_short = k.matched_short; in_place = k.in_place; hand_short = few; received = k.received }, h.3))
 
 -- the next piece is the one whose number is that of the pieces in hand, it among them
 next_number : (hand : List Chunk) (c : Chunk) → is_next hand c ≡ true → c.number ≡ length hand + 1
@@ -257,6 +263,7 @@ compact_kept i r h =
       h.0,
       record { last_short = omega (arith, n, p.last_short); may_lead = λ k. let m = p.may_lead k in omega (arith, n, m); front_committed = omega (arith, up); committed = omega (arith, n, p.committed); front_saved = omega (arith, up); saved = p.saved; changed = omega (arith, n, p.changed) },
       h.2,
+      fit_drop (i - r.log.front) r.log.entries h.3,
     ))
     (λ _. h)
 
@@ -271,11 +278,13 @@ based_kept i t r h role above short =
       h.0,
       record { last_short = omega (arith, n, p.last_short); may_lead = λ k. absurd (cc (k, role)); front_committed = omega arith; committed = omega (arith, n, up); front_saved = omega arith; saved = omega (arith, p.saved); changed = omega (arith, n, up, p.changed) },
       h.2,
+      fit_drop (i - r.log.front) r.log.entries h.3,
     ))
     (λ _. (
       h.0,
       record { last_short = omega (arith, short); may_lead = λ k. absurd (cc (k, role)); front_committed = omega arith; committed = omega arith; front_saved = omega arith; saved = omega arith; changed = omega arith },
       h.2,
+      refl,
     ))
 
 follows_only : (r : Replica) → is_follower r ≡ true → is_candidate r ≡ false

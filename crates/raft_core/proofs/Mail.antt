@@ -27,7 +27,9 @@ use Rattle.raft_model.specs.Appending.{Took as AppendTook, lacks, refused, store
 use Rattle.raft_model.specs.Reading.{on_beat, is_answered, confirmed, confirm, confirms, answers_round, then_more_to, on_beat_reply, beats, next_round, on_script_beat, may_read, opened, open_read, on_read_ask, on_ask}
 use Rattle.raft_model.specs.Proposing.{on_propose, on_local_proposal}
 use Rattle.raft_model.specs.Snapping.{Took, taken, after_take, on_chunk, on_snap_reply, sends_chunk, compacted, stays, based, replied, installed}
+use Rattle.raft_model.specs.Fit.{is_fit}
 use Rattle.raft_core.specs.Range.{InRange, IsMail, IsSeat, BodyWithin, Holds}
+use Rattle.raft_core.proofs.Fits.{fit_take, fit_drop}
 use Rattle.raft_core.proofs.Kept.{append_to_kept, appended_kept, leads, commit_kept}
 use Rattle.raft_core.proofs.Votes.{follows_kept, not_full, not_true, campaigned_kept, crowned_kept, next_kept, confirms_kept}
 use Rattle.raft_core.proofs.Logs.{heard_kept, named_short}
@@ -66,12 +68,13 @@ append_to_holds s v r q h k =
     let b = length-take 64 (drop (at r.next v - r.log.front - 1) r.log.entries) in
     let d = length-drop (at r.next v - r.log.front - 1) r.log.entries in
     let short = h.1.last_short in
-    sent_holds s v (kinds.Append (at r.next v - 1) (term_at r.log (at r.next v - 1)) r.commit (slice r.log (at r.next v) 64)) r q h.0.term_short (omega (arith, b, d, front, up, short)) k)
+    let fit = fit_take 64 (drop (at r.next v - r.log.front - 1) r.log.entries) (fit_drop (at r.next v - r.log.front - 1) r.log.entries h.3) in
+    sent_holds s v (kinds.Append (at r.next v - 1) (term_at r.log (at r.next v - 1)) r.commit (slice r.log (at r.next v) 64)) r q h.0.term_short (omega (arith, b, d, front, up, short), fit) k)
     (λ _. k)
 
-to_all_holds : (s : Seat) (key : Key) (p : Proposal) (r : Replica) → IsSeat s → InRange r → last r.log < 2 ^ 62 → is_candidate r ≡ false → Holds r → Holds (appended_to_all s key p r)
-to_all_holds s key p r q h short role k =
-    (each_both s.me (append_to s) (λ v x b. (append_to_kept s v x b.0, append_to_holds s v x q b.0 b.1)) s.voters (appended key p r) (appended_kept key p r h short role, k)).1
+to_all_holds : (s : Seat) (key : Key) (p : Proposal) (r : Replica) → IsSeat s → InRange r → last r.log < 2 ^ 62 → is_candidate r ≡ false → is_fit p ≡ true → Holds r → Holds (appended_to_all s key p r)
+to_all_holds s key p r q h short role fit k =
+    (each_both s.me (append_to s) (λ v x b. (append_to_kept s v x b.0, append_to_holds s v x q b.0 b.1)) s.voters (appended key p r) (appended_kept key p r h short role fit, k)).1
 
 more_holds : (s : Seat) (v : ℕ) (r : Replica) → IsSeat s → InRange r → Holds r → Holds (more_to s v r)
 more_holds s v r q h k = cond_both (nat_lt (at r.matched v) (last r.log)) (append_to s v r) r (λ x. Holds x) (λ _. append_to_holds s v r q h k) (λ _. k)
@@ -98,7 +101,7 @@ granted_holds s from r q h c k =
     let e = with_grant from (election r) in
     let g = record r { granted = e.granted } in
     cond_both (has_won s.voters e) (lead s g) (quiet g) (λ w. Holds w.replica)
-    (λ _. to_all_holds s no_key proposals.Blank (crowned s g) q (crowned_kept s g h) (h.1.may_lead c) refl k)
+    (λ _. to_all_holds s no_key proposals.Blank (crowned s g) q (crowned_kept s g h) (h.1.may_lead c) refl refl k)
     (λ _. k)
 
 pub vote_reply_holds : (s : Seat) (from t : ℕ) (granted : Bool) (r : Replica) → IsSeat s → InRange r → Holds r → Holds (on_vote_reply s from t granted r).replica
@@ -109,22 +112,22 @@ vote_reply_holds s from t granted r q h k =
 
 -- ---- proposals
 
-pub propose_holds : (s : Seat) (key : Key) (p : Proposal) (r : Replica) → IsSeat s → InRange r → Holds r → Holds (on_propose s key p r).replica
-propose_holds s key p r q h k =
+pub propose_holds : (s : Seat) (key : Key) (p : Proposal) (r : Replica) → IsSeat s → InRange r → is_fit p ≡ true → Holds r → Holds (on_propose s key p r).replica
+propose_holds s key p r q h fit k =
     cond_both (is_leader r && not (is_full r)) (quiet (appended_to_all s key p r)) (quiet r) (λ w. Holds w.replica)
     (λ e.
     let a = and_parts (is_leader r) (not (is_full r)) e in
-    to_all_holds s key p r q h (not_full r (not_true (is_full r) a.1)).1 (leads r a.0) k)
+    to_all_holds s key p r q h (not_full r (not_true (is_full r) a.1)).1 (leads r a.0) fit k)
     (λ _. k)
 
-pub local_proposal_holds : (s : Seat) (key : Key) (p : Proposal) (r : Replica) → IsSeat s → InRange r → Holds r → Holds (on_local_proposal s key p r).replica
-local_proposal_holds s key p r q h k =
+pub local_proposal_holds : (s : Seat) (key : Key) (p : Proposal) (r : Replica) → IsSeat s → InRange r → is_fit p ≡ true → Holds r → Holds (on_local_proposal s key p r).replica
+local_proposal_holds s key p r q h fit k =
     let sends : Row = quiet (sent_in 0 s r.leader (kinds.Propose key p) r) in
     let other : Row = if r.leader == 0 then notes_dropped key r else sends in
-    let o : Holds other.replica = cond_both (r.leader == 0) (notes_dropped key r) sends (λ w. Holds w.replica) (λ _. k) (λ _. sent_in_holds 0 s r.leader (kinds.Propose key p) r q (omega arith) tt k) in
+    let o : Holds other.replica = cond_both (r.leader == 0) (notes_dropped key r) sends (λ w. Holds w.replica) (λ _. k) (λ _. sent_in_holds 0 s r.leader (kinds.Propose key p) r q (omega arith) fit k) in
     cond_both (is_full r) (notes_dropped key r) (if is_leader r then quiet (appended_to_all s key p r) else other) (λ w. Holds w.replica)
     (λ _. k)
-    (λ e. cond_both (is_leader r) (quiet (appended_to_all s key p r)) other (λ w. Holds w.replica) (λ l. to_all_holds s key p r q h (not_full r e).1 (leads r l) k) (λ _. o))
+    (λ e. cond_both (is_leader r) (quiet (appended_to_all s key p r)) other (λ w. Holds w.replica) (λ l. to_all_holds s key p r q h (not_full r e).1 (leads r l) fit k) (λ _. o))
 
 -- ---- beats and reads
 

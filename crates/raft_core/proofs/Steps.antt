@@ -28,14 +28,14 @@ use Rattle.raft_core.proofs.Logs.{append_kept, append_reply_kept, snap_reply_kep
 body_kept : (s : Seat) (from t : ℕ) (body : Body) (r : Replica) → InRange r → t ≤ 2 ^ 62 → BodyWithin body → InRange (on_body s from t body r).replica
 body_kept s from t (kinds.Vote l lt) r h short w = in_term_kept t r short h
 body_kept s from t (kinds.VoteReply granted) r h short w = vote_reply_kept s from t granted (in_term t r) (in_term_kept t r short h)
-body_kept s from t (kinds.Append prev pt c es) r h short w = append_kept s from t prev pt c es (in_term t r) (in_term_kept t r short h) w
+body_kept s from t (kinds.Append prev pt c es) r h short w = append_kept s from t prev pt c es (in_term t r) (in_term_kept t r short h) w.0 w.1
 body_kept s from t (kinds.AppendReply ok i) r h short w = append_reply_kept s from t ok i (in_term t r) (in_term_kept t r short h) w
 body_kept s from t (kinds.Beat c round) r h short w = beat_kept s from t c round (in_term t r) (in_term_kept t r short h)
 body_kept s from t (kinds.BeatReply round) r h short w = beat_reply_kept s from t round (in_term t r) (in_term_kept t r short h)
 body_kept s from t (kinds.SnapChunk index last_term number count size bytes) r h short w =
     chunk_kept s from (record { term = t; index = index; last_term = last_term; number = number; count = count; size = size; bytes = bytes }) (in_term t r) (in_term_kept t r short h) w.0 w.1 w.2
 body_kept s from t (kinds.SnapReply i want whole) r h short w = snap_reply_kept s from t i whole (in_term t r) (in_term_kept t r short h) w
-body_kept s from t (kinds.Propose key p) r h short w = propose_kept s key p r h
+body_kept s from t (kinds.Propose key p) r h short w = propose_kept s key p r h w
 body_kept s from t (kinds.ReadAsk key) r h short w = read_ask_kept s from key r h
 body_kept s from t (kinds.ReadAnswer key i) r h short w = h
 
@@ -44,7 +44,7 @@ unfolding row
 row_kept s inputs.Timeout r h w = timeout_kept s r h
 row_kept s inputs.Beat r h w = script_beat_kept s r h
 row_kept s (inputs.Envelope e) r h w = body_kept s e.from e.term e.body r h w.2 w.3
-row_kept s (inputs.Propose key p) r h w = local_proposal_kept s key p r h
+row_kept s (inputs.Propose key p) r h w = local_proposal_kept s key p r h w
 row_kept s (inputs.Ask key) r h w = ask_kept s key r h
 row_kept s (inputs.Chunk to c) r h w = h
 row_kept s (inputs.Compact i) r h w = compact_kept i r h
@@ -60,14 +60,14 @@ ready_kept r h = cond_both (may_give r) (gave_batch r) r (λ q. InRange q) (λ _
 body_holds : (s : Seat) (from t : ℕ) (body : Body) (r : Replica) → IsSeat s → InRange r → t ≤ 2 ^ 62 → BodyWithin body → Holds r → Holds (on_body s from t body r).replica
 body_holds s from t (kinds.Vote l lt) r q h short w k = vote_holds s from t l lt (in_term t r) q (in_term_kept t r short h) (in_term_holds t r k)
 body_holds s from t (kinds.VoteReply granted) r q h short w k = vote_reply_holds s from t granted (in_term t r) q (in_term_kept t r short h) (in_term_holds t r k)
-body_holds s from t (kinds.Append prev pt c es) r q h short w k = append_holds s from t prev pt c es (in_term t r) q (in_term_kept t r short h) w (in_term_holds t r k)
+body_holds s from t (kinds.Append prev pt c es) r q h short w k = append_holds s from t prev pt c es (in_term t r) q (in_term_kept t r short h) w.0 (in_term_holds t r k)
 body_holds s from t (kinds.AppendReply ok i) r q h short w k = append_reply_holds s from t ok i (in_term t r) q (in_term_kept t r short h) w (in_term_holds t r k)
 body_holds s from t (kinds.Beat c round) r q h short w k = beat_holds s from t c round (in_term t r) q (in_term_kept t r short h) (in_term_holds t r k)
 body_holds s from t (kinds.BeatReply round) r q h short w k = beat_reply_holds s from t round (in_term t r) q (in_term_kept t r short h) (in_term_holds t r k)
 body_holds s from t (kinds.SnapChunk index last_term number count size bytes) r q h short w k =
     chunk_holds s from (record { term = t; index = index; last_term = last_term; number = number; count = count; size = size; bytes = bytes }) (in_term t r) q (in_term_kept t r short h) w.0 (in_term_holds t r k)
 body_holds s from t (kinds.SnapReply i want whole) r q h short w k = snap_reply_holds s from t i whole (in_term t r) q (in_term_kept t r short h) w (in_term_holds t r k)
-body_holds s from t (kinds.Propose key p) r q h short w k = propose_holds s key p r q h k
+body_holds s from t (kinds.Propose key p) r q h short w k = propose_holds s key p r q h w k
 body_holds s from t (kinds.ReadAsk key) r q h short w k = read_ask_holds s from key r q h k
 body_holds s from t (kinds.ReadAnswer key i) r q h short w k = k
 
@@ -76,7 +76,7 @@ unfolding row
 row_holds s inputs.Timeout r q h w k = timeout_holds s r q h k
 row_holds s inputs.Beat r q h w k = script_beat_holds s r q h k
 row_holds s (inputs.Envelope e) r q h w k = body_holds s e.from e.term e.body r q h w.2 w.3 k
-row_holds s (inputs.Propose key p) r q h w k = local_proposal_holds s key p r q h k
+row_holds s (inputs.Propose key p) r q h w k = local_proposal_holds s key p r q h w k
 row_holds s (inputs.Ask key) r q h w k = ask_holds s key r q h k
 row_holds s (inputs.Chunk to c) r q h w k = sends_holds s to c r q w.0 w.1 w.2 w.3 k
 row_holds s (inputs.Compact i) r q h w k = compact_holds i r k

@@ -18,6 +18,7 @@ use Rattle.raft_model.specs.Voting.{on_timeout, campaigned, asked_votes, granted
 use Rattle.raft_model.specs.Appending.{follows, more_to}
 use Rattle.raft_model.specs.Reading.{on_beat, is_answered, confirmed, confirm, confirms, answers_round, then_more_to, on_beat_reply, beats, next_round, on_script_beat, may_read, opened, open_read, on_read_ask, on_ask}
 use Rattle.raft_model.specs.Proposing.{on_propose, on_local_proposal}
+use Rattle.raft_model.specs.Fit.{is_fit}
 use Rattle.raft_core.specs.Range.{InRange}
 use Rattle.raft_core.proofs.Kept.{each_kept, append_to_kept, leads, to_all_kept}
 
@@ -48,6 +49,7 @@ campaigned_kept s r e h =
       record { term_short = omega (arith, few.0); round_short = h.0.round_short; batches_short = h.0.batches_short },
       record { last_short = p.last_short; may_lead = λ _. few.1; front_committed = p.front_committed; committed = p.committed; front_saved = p.front_saved; saved = p.saved; changed = p.changed },
       h.2,
+      h.3,
     )
 
 pub timeout_kept : (s : Seat) (r : Replica) → InRange r → InRange (on_timeout s r).replica
@@ -64,10 +66,11 @@ crowned_kept s r h =
       record { term_short = n.term_short; round_short = omega arith; batches_short = n.batches_short },
       record { last_short = p.last_short; may_lead = λ c. absurd (cc c); front_committed = p.front_committed; committed = p.committed; front_saved = p.front_saved; saved = p.saved; changed = p.changed },
       record { matched_short = All-set (λ i. i ≤ 2 ^ 62) (all_at 0) s.me r.stable stable_short (All-replicate (λ i. i ≤ 2 ^ 62) 10 0 (omega arith)); in_place = h.2.in_place; hand_short = h.2.hand_short; received = h.2.received },
+      h.3,
     )
 
 pub lead_kept : (s : Seat) (r : Replica) → InRange r → last r.log < 2 ^ 62 → InRange (lead s r).replica
-lead_kept s r h short = to_all_kept s no_key proposals.Blank (crowned s r) (crowned_kept s r h) short refl
+lead_kept s r h short = to_all_kept s no_key proposals.Blank (crowned s r) (crowned_kept s r h) short refl refl
 
 pub granted_kept : (s : Seat) (from : ℕ) (r : Replica) → InRange r → is_candidate r ≡ true → InRange (granted_by s from r).replica
 granted_kept s from r h c =
@@ -84,28 +87,28 @@ vote_reply_kept s from t granted r h =
 
 -- ---- proposals
 
-pub propose_kept : (s : Seat) (key : Key) (p : Proposal) (r : Replica) → InRange r → InRange (on_propose s key p r).replica
-propose_kept s key p r h =
+pub propose_kept : (s : Seat) (key : Key) (p : Proposal) (r : Replica) → InRange r → is_fit p ≡ true → InRange (on_propose s key p r).replica
+propose_kept s key p r h fit =
     cond_both (is_leader r && not (is_full r)) (quiet (appended_to_all s key p r)) (quiet r) (λ w. InRange w.replica)
     (λ e.
     let a = and_parts (is_leader r) (not (is_full r)) e in
-    to_all_kept s key p r h (not_full r (not_true (is_full r) a.1)).1 (leads r a.0))
+    to_all_kept s key p r h (not_full r (not_true (is_full r) a.1)).1 (leads r a.0) fit)
     (λ _. h)
 
-pub local_proposal_kept : (s : Seat) (key : Key) (p : Proposal) (r : Replica) → InRange r → InRange (on_local_proposal s key p r).replica
-local_proposal_kept s key p r h =
+pub local_proposal_kept : (s : Seat) (key : Key) (p : Proposal) (r : Replica) → InRange r → is_fit p ≡ true → InRange (on_local_proposal s key p r).replica
+local_proposal_kept s key p r h fit =
     let other : Row = if r.leader == 0 then notes_dropped key r else quiet (sent_in 0 s r.leader (kinds.Propose key p) r) in
     let o : InRange other.replica = cond_both (r.leader == 0) (notes_dropped key r) (quiet (sent_in 0 s r.leader (kinds.Propose key p) r)) (λ w. InRange w.replica) (λ _. h) (λ _. h) in
     cond_both (is_full r) (notes_dropped key r) (if is_leader r then quiet (appended_to_all s key p r) else other) (λ w. InRange w.replica)
     (λ _. h)
-    (λ e. cond_both (is_leader r) (quiet (appended_to_all s key p r)) other (λ w. InRange w.replica) (λ l. to_all_kept s key p r h (not_full r e).1 (leads r l)) (λ _. o))
+    (λ e. cond_both (is_leader r) (quiet (appended_to_all s key p r)) other (λ w. InRange w.replica) (λ l. to_all_kept s key p r h (not_full r e).1 (leads r l) fit) (λ _. o))
 
 -- ---- beats and reads
 
 pub follows_kept : (from : ℕ) (r : Replica) → InRange r → InRange (follows from r)
 follows_kept from r h =
     let p = h.1 in
-    (h.0, record { last_short = p.last_short; may_lead = λ c. absurd (cc c); front_committed = p.front_committed; committed = p.committed; front_saved = p.front_saved; saved = p.saved; changed = p.changed }, h.2)
+    (h.0, record { last_short = p.last_short; may_lead = λ c. absurd (cc c); front_committed = p.front_committed; committed = p.committed; front_saved = p.front_saved; saved = p.saved; changed = p.changed }, h.2, h.3)
 
 pub beat_kept : (s : Seat) (from t c round : ℕ) (r : Replica) → InRange r → InRange (on_beat s from t c round r).replica
 beat_kept s from t c round r h =
@@ -115,6 +118,7 @@ beat_kept s from t c round r h =
       h.0,
       record { last_short = p.last_short; may_lead = λ c. absurd (cc c); front_committed = omega (arith, p.front_committed); committed = omega (arith, p.committed); front_saved = p.front_saved; saved = p.saved; changed = p.changed },
       h.2,
+      h.3,
     ) in
     cond_both (nat_lt t r.term) (quiet (sent s from (kinds.BeatReply 0) r)) (if is_leader r then quiet r else after) (λ w. InRange w.replica)
     (λ _. h)
@@ -147,7 +151,7 @@ pub beats_kept : (s : Seat) (r : Replica) → InRange r → InRange (beats s r)
 beats_kept s r h = each_kept s.me (λ v q. sent s v (kinds.Beat (min (at q.matched v) q.commit) q.round) q) (λ v q k. k) s.voters r h
 
 pub next_kept : (r : Replica) → InRange r → r.round < 2 ^ 62 → InRange (next_round r)
-next_kept r h short = (record { term_short = h.0.term_short; round_short = omega (arith, short); batches_short = h.0.batches_short }, h.1, h.2)
+next_kept r h short = (record { term_short = h.0.term_short; round_short = omega (arith, short); batches_short = h.0.batches_short }, h.1, h.2, h.3)
 
 pub script_beat_kept : (s : Seat) (r : Replica) → InRange r → InRange (on_script_beat s r).replica
 script_beat_kept s r h =

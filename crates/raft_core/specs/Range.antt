@@ -11,6 +11,7 @@ use Rattle.raft_model.specs.declared.state.Inbox.{Inbox}
 use Rattle.raft_model.specs.declared.state.Pending.{Pending}
 use Rattle.raft_model.specs.declared.state.State.{State as Replica}
 use Rattle.log_view.specs.Log.{Log, last}
+use Rattle.raft_model.specs.Fit.{is_fit, are_fit}
 use Rattle.raft_model.specs.Roster.{Seat}
 use Rattle.raft_model.specs.Replica.{is_candidate}
 
@@ -43,33 +44,34 @@ pub record Known (matched : List ℕ) (pending : Option Pending) (assembly : Lis
   pub hand_short : length assembly + 1 < 2 ^ 32
   pub received : IfSome inbox IsReceived
 
+-- and the numbers of the proposals in its log are in their ranges
 abbrev pub InRange : Replica → Type 0
-InRange r = Numbers r.term r.round r.batches × Places (is_candidate r) r.log r.commit r.stable r.from × Known r.matched r.pending r.assembly r.inbox
+InRange r = Numbers r.term r.round r.batches × Places (is_candidate r) r.log r.commit r.stable r.from × Known r.matched r.pending r.assembly r.inbox × (are_fit r.log.entries ≡ true)
 
 -- the numbers of an envelope's body that a replica takes over
 abbrev pub BodyWithin : Body → Type 0
 BodyWithin (kinds.Vote l lt) = ⊤
 BodyWithin (kinds.VoteReply granted) = ⊤
-BodyWithin (kinds.Append prev pt c es) = prev + length es ≤ 2 ^ 62
+BodyWithin (kinds.Append prev pt c es) = (prev + length es ≤ 2 ^ 62) × (are_fit es ≡ true)
 BodyWithin (kinds.AppendReply ok i) = i ≤ 2 ^ 62
 BodyWithin (kinds.Beat c round) = ⊤
 BodyWithin (kinds.BeatReply round) = ⊤
 BodyWithin (kinds.SnapChunk index last_term number count size bytes) = (index ≤ 2 ^ 62) × (number + 1 < 2 ^ 32) × (count + 1 < 2 ^ 32)
 BodyWithin (kinds.SnapReply i want whole) = i ≤ 2 ^ 62
-BodyWithin (kinds.Propose key p) = ⊤
+BodyWithin (kinds.Propose key p) = is_fit p ≡ true
 BodyWithin (kinds.ReadAsk key) = ⊤
 BodyWithin (kinds.ReadAnswer key i) = ⊤
 
--- an envelope comes from a host, and its numbers are up to 2^62
+-- an envelope comes from a host, its numbers are up to 2^62, and those of its proposals are in their ranges
 abbrev pub IsMail : Envelope → Type 0
 IsMail e = (1 ≤ e.from) × (e.from ≤ 9) × (e.term ≤ 2 ^ 62) × BodyWithin e.body
 
--- so are those of a piece that is to be sent; a snapshot that was put in place is the one that was received
+-- so are those of a piece that is to be sent and of a proposal; a snapshot that was put in place is the one that was received
 abbrev pub IsWithin : Replica → Input → Type 0
 IsWithin r inputs.Timeout = ⊤
 IsWithin r inputs.Beat = ⊤
 IsWithin r (inputs.Envelope e) = IsMail e
-IsWithin r (inputs.Propose key p) = ⊤
+IsWithin r (inputs.Propose key p) = is_fit p ≡ true
 IsWithin r (inputs.Ask key) = ⊤
 IsWithin r (inputs.Chunk to c) = (c.term ≤ 2 ^ 62) × (c.index ≤ 2 ^ 62) × (c.number + 1 < 2 ^ 32) × (c.count + 1 < 2 ^ 32)
 IsWithin r (inputs.Compact i) = ⊤

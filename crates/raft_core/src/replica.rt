@@ -76,9 +76,10 @@ impl Replica {
     ///
     /// An envelope comes from a host, 1 to 9; its term, its indices and its rounds are at most 2^62,
     /// the last index of the entries of an Append among them; the number and the count of a piece are
-    /// below 2^32-1. The same holds of a piece that is to be sent. An Installed has the index of the
-    /// received snapshot. The only error is want of
-    /// memory; then the replica is only to be dropped.
+    /// below 2^32-1. The same holds of a piece that is to be sent. The client of a proposal is at
+    /// least 1, its series 1 to 2^64-3, its responded value at most 2^64-3; the same holds of the
+    /// proposals of an envelope. An Installed has the index of the received snapshot. The only error
+    /// is want of memory; then the replica is only to be dropped.
     pub fn step(&mut self, input: Input) -> Result<Vec<Note>, NoMemory>
         requires within { IsWithin self.old.state input }
         ensures replica { OnOk result (self.new.state ≡ (step self.old.seat input self.old.state).replica) }

@@ -5,7 +5,7 @@ ghost use Rattle.raft_model.specs.Replica.{sent, sent_in, append_to, each_other,
 use crate::seat::Seat;
 use host_ids::NoMemory;
 use raft_model::{Role, State};
-use wire_codec::{Body, Envelope};
+use wire_codec::{Body, Envelope, SharedEntries};
 
 /// An envelope of the replica's term is held.
 pub(crate) fn send(seat: &Seat, r: &mut State, to: u8, body: Body) -> Result<(), NoMemory>
@@ -132,7 +132,7 @@ pub(crate) fn append_to_one(seat: &Seat, r: &mut State, to: u8) -> Result<(), No
     if r.log.front() < next && next - 1 <= r.log.last() {
         let prev = next - 1;
         let prev_term = r.log.term_or_zero(prev);
-        let entries = r.log.slice(next, 64)?;
+        let entries = SharedEntries::new(seat.alloc(), r.log.slice(next, 64)?)?;
         let commit = r.commit;
         let body = Body::Append {
             prev,

@@ -1,8 +1,9 @@
-ghost use Rattle.std.specs.Prelude.{◌≤◌, ◌<◌, ◌+◌, ◌^◌, length};
+ghost use Rattle.std.specs.Prelude.{◌≡◌, ◌≤◌, ◌<◌, ◌+◌, ◌^◌, length};
+ghost use Rattle.raft_model.specs.Fit.{is_fit, are_fit};
 ghost use Rattle.raft_core.specs.Range.{BodyWithin};
 
 use crate::{CoreFault, Input, Note, Replica, Role};
-use host_ids::{Key, Proposal, Text};
+use host_ids::{Entry, Key, Proposal, Text};
 use std::alloc::Global;
 use std::collections::VecDeque;
 use std::process::Abort;
@@ -11,12 +12,39 @@ use wire_codec::{Body, Envelope};
 
 const MOST: u64 = 1 << 62;
 
+/// Whether the numbers of a proposal are in their ranges.
+fn has_fit_numbers(proposal: &Proposal) -> bool
+    ensures { result ≡ is_fit proposal.now }
+{
+    match proposal {
+        Proposal::Blank => true,
+        Proposal::Plain { .. } => true,
+        Proposal::Session {
+            client,
+            series,
+            responded,
+            ..
+        } => {
+            *client >= 1 && *series >= 1 && *series <= u64::MAX - 2 && *responded <= u64::MAX - 2
+        }
+        Proposal::Register { client } => *client >= 1,
+        Proposal::Close { client } => *client >= 1,
+    }
+}
+
+fn have_fit_numbers(entries: &[Entry]) -> bool
+    ensures { result ≡ are_fit entries.now }
+{
+    entries.iter().all(|entry| has_fit_numbers(&entry.proposal))
+}
+
 fn check(rt: &impl Abort, body: &Body)
     ensures { BodyWithin body.now }
 {
     match body {
         Body::Append { prev, entries, .. } => {
             assert!(rt; *prev <= 1000 && entries.items().len() <= 64);
+            assert!(rt; have_fit_numbers(entries.items()));
         }
         Body::AppendReply { index, .. } => assert!(rt; *index <= MOST),
         Body::SnapChunk {
@@ -30,7 +58,7 @@ fn check(rt: &impl Abort, body: &Body)
         Body::VoteReply { .. } => {}
         Body::Beat { .. } => {}
         Body::BeatReply { .. } => {}
-        Body::Propose { .. } => {}
+        Body::Propose { proposal, .. } => assert!(rt; has_fit_numbers(proposal)),
         Body::ReadAsk { .. } => {}
         Body::ReadAnswer { .. } => {}
     }

@@ -1,4 +1,5 @@
 pub mod Roster
+pub mod Fit
 pub mod Replica
 pub mod Voting
 pub mod Appending

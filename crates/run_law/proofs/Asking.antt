@@ -1,198 +1,139 @@
--- A request that is asked: it opens, or ends at once.
-use Rattle.std.proofs.Common.{◌≡◌, ℕ, ◌+◌, ◌≤◌, List, [], ◌∷◌, ◌++◌, false, take, drop, map, refl, sym, ap, ◌∙◌, subst, inr, length-append, take-append-drop, arith, leb-true}
-use Rattle.std.specs.Prelude.{nat_le, not, ◌||◌}
-use Rattle.std.specs.List.{AllByRecursion}
-use Rattle.std.specs.BTreeMap.{insert_entry}
+-- A proposal and a read at the one voter's host, step by step.
+use Rattle.std.proofs.Common.{◌≡◌, ℕ, ◌≤◌, List, [], ◌∷◌, false, Some, refl, sym, ap, subst, inl, inr, leb-true, arith, if◌then◌else◌}
+use Rattle.std.specs.Prelude.{nat_le}
 use Rattle.std.specs.BTreeSet.{insert_key}
 use Rattle.std.proofs.lemmas.Bool.{cond_both}
-use Rattle.std.proofs.lemmas.List.{map-append, take-take}
-use Rattle.host_ids.specs.declared.entry.Key.{Key}
 use Rattle.host_ids.specs.declared.entry.Entry.{Entry}
 use Rattle.host_ids.specs.declared.proposal.Proposal.{Proposal}
 use Rattle.object_model.specs.declared.mark.What.{What}
 use Rattle.object_model.specs.declared.mark.What.TheVariants as whats
 use Rattle.object_model.specs.declared.mark.Mark.TheVariants as marks
 use Rattle.object_model.specs.Object.{answer}
-use Rattle.object_model.specs.Desk.{Request, Desk, AskMove, EndMove}
-use Rattle.run_model.specs.declared.replica.Replica.{Replica}
-use Rattle.run_model.specs.declared.replica.Note.TheVariants as notes
+use Rattle.object_model.specs.Desk.{Request, Desk}
+use Rattle.raft_model.specs.declared.event.LaneEvent.TheVariants as inputs
+use Rattle.raft_model.specs.declared.note.Note.{Note}
+use Rattle.raft_model.specs.Replica.{own_entry}
+use Rattle.raft_model.specs.Group.{Acted, act, replica_at}
 use Rattle.run_model.specs.declared.told.Told.{Told}
-use Rattle.run_model.specs.declared.told.Want.{Want}
 use Rattle.run_model.specs.declared.told.Want.TheVariants as wants
 use Rattle.run_model.specs.declared.told.Waiting.{Waiting}
-use Rattle.run_model.specs.Replica
-use Rattle.run_model.specs.World.{World, Open, key_order, waiting_order}
+use Rattle.run_model.specs.declared.line.Line.TheVariants as lines
+use Rattle.run_model.specs.World.{World, Node, Open, node_at, waiting_order}
 use Rattle.run_model.specs.Run
-use Rattle.run_model.specs.Run.{next_key, named, is_used}
+use Rattle.run_model.specs.Run.{is_used, next_key, proposes, read_asked}
 use Rattle.run_model.specs.Marks.{marks_of}
-use Rattle.run_law.specs.Lawful.{placed}
-use Rattle.run_law.proofs.Tables.{With, insert_new, insert_all}
-use Rattle.run_law.proofs.Names.{request_at, requests_of, Within, Entered, IsWanted, Wanted, Waits, request_last, unused_new}
-use Rattle.run_law.proofs.Replicas.{Sound, Onward, kept_onward, appended_onward}
-use Rattle.run_law.proofs.Agree.{Agrees, length_decided, length_asked, onward_agrees, asked_agrees, next_new, opened_agrees}
-use Rattle.run_law.proofs.Joining.{growth_moves, next_moves, one_moves}
-use Rattle.run_law.proofs.Applying.{answer_move}
-use Rattle.run_law.proofs.Going.{Goes, fed_log}
+use Rattle.run_law.proofs.Tables.{insert_all}
+use Rattle.run_law.proofs.Names.{Entered, Waits, more_contexts}
+use Rattle.run_law.proofs.Joining.{growth_moves, next_moves}
+use Rattle.run_law.proofs.Requests.{IsTold, IsHeard}
+use Rattle.run_law.proofs.Replicas.{Onward}
+use Rattle.run_law.proofs.Groups.{Onto, propose_onto, ask_onto}
+use Rattle.run_law.proofs.Going.{seen_at, Alone, Goes, acted, replica_agrees, node_alone}
+use Rattle.run_law.proofs.Opening.{asked_with, closing, closing_agrees, next_within, next_is, dropped_moves, answered_moves, Opens, opens}
 
--- the request of a world that asks, and the asked ones with it
-abbrev pub asking : World → List ℕ → What → Request
-asking w context what = record { context = context; what = what; since = w.replica.commit }
+-- what the core makes of the world in which the request has its context
+abbrev after : ℕ → List ℕ → Acted → ℕ → World → World
+after h context k n w = acted k n (Run.named h context w)
 
-abbrev pub asked_with : World → Desk → List ℕ → What → List Request
-asked_with w d context what = d.asked ++ asking w context what ∷ []
+-- entries that are blank or asked, the request among these
+abbrev Asked : ℕ → World → Desk → List ℕ → What → Entry → Type 0
+Asked h w d context what e = Entered h (asked_with (seen_at h w) d context what) e
 
-ask_move : (limit : ℕ) (w : World) (d : Desk) (context : List ℕ) (what : What) (front back : List Request) → Agrees limit w d → is_used w context ≡ false → d.open_ones ≡ front ++ back
-    → AskMove d context what (record { decided = d.decided; asked = asked_with w d context what; open_ones = front ++ asking w context what ∷ back })
-ask_move limit w d context what front back a unused o = record {
-  since = w.replica.commit;
-  late = rw (length_decided limit w d a) (omega arith);
-  new = unused_new context w.contexts d.asked a.contexts unused;
-  open_ones = front ++ asking w context what ∷ back;
-  with = record { front = front; back = back; whole = refl; rest = o };
-  becomes = refl;
-}
-
--- the new key names the new request
-next_within : (limit : ℕ) (w : World) (d : Desk) (context : List ℕ) (what : What) → Agrees limit w d → Within (asked_with w d context what) (next_key w)
-next_within limit w d context what a = record { positive = omega arith; most = rw length-append (omega (arith, length_asked limit w d a)) }
-
-next_is : (limit : ℕ) (w : World) (d : Desk) (context : List ℕ) (what : What) → Agrees limit w d → request_at (asked_with w d context what) (next_key w) ≡ asking w context what
-next_is limit w d context what a = request_last d.asked (asking w context what) (next_key w) (omega (arith, length_asked limit w d a))
-
--- ---- a request that ends at once
-
--- the desk while it is open, and behind its end
-abbrev opening : World → Desk → List ℕ → What → Desk
-opening w d context what = record { decided = d.decided; asked = asked_with w d context what; open_ones = [] ++ asking w context what ∷ d.open_ones }
-
-abbrev closing : World → Desk → List ℕ → What → Desk
-closing w d context what = record d { asked = asked_with w d context what }
-
-close_move : (w : World) (d : Desk) (context : List ℕ) (what : What) → EndMove (opening w d context what) context what w.replica.commit (closing w d context what)
-close_move w d context what = record { others = d.open_ones; was = record { front = []; back = d.open_ones; whole = refl; rest = refl }; becomes = refl }
-
-pub dropped_goes : (limit : ℕ) (w : World) (d : Desk) (context : List ℕ) (what : What) (told : List Told) → Agrees limit w d → is_used w context ≡ false → marks_of 1 told ≡ marks.Asks context what ∷ marks.Leaves context ∷ []
-    → Goes limit d (record { world = named w context; told = told })
-dropped_goes limit w d context what told a unused m = record {
-  desk = closing w d context what;
-  agrees = asked_agrees limit w d context (asking w context what) a refl;
-  moves = rw m (next_moves limit d (opening w d context what) (closing w d context what) (marks.Asks context what) (marks.Leaves context ∷ []) (ask_move limit w d context what [] d.open_ones a unused refl)
-      (one_moves limit (opening w d context what) (closing w d context what) (marks.Leaves context) (record { what = what; since = w.replica.commit; ends = close_move w d context what })));
-}
-
--- ---- a request that opens
-
-pub record Opens (limit : ℕ) (w : World) (d : Desk) (context : List ℕ) (what : What) (after : Open) : Type 0 where
-  pub desk : Desk
-  pub asks : AskMove d context what desk
-  pub agrees : Agrees limit (record (named w context) { requests = after }) desk
-  pub asked : desk.asked ≡ asked_with w d context what
-
-pub opens : (limit : ℕ) (w : World) (d : Desk) (context : List ℕ) (what : What) (want : Want) (waiting : List Waiting) → Agrees limit w d → is_used w context ≡ false → IsWanted what want → AllByRecursion (Waits (asked_with w d context what)) waiting
-    → Opens limit w d context what (record { wants = insert_entry key_order w.requests.wants (next_key w) want; waiting = waiting })
-opens limit w d context what want waiting a unused q k =
-    let r = asking w context what in
-    let key = next_key w in
-    let w1 = named w context in
-    let d1 : Desk = record d { asked = asked_with w d context what } in
-    let n : Agrees limit w1 d1 = asked_agrees limit w d context r a refl in
-    let after : Open = record { wants = insert_entry key_order w.requests.wants key want; waiting = waiting } in
-    let s : With key want w.requests.wants after.wants = insert_new key want w.requests.wants (next_new limit w d key a refl) in
-    let is = next_is limit w d context what a in
-    let front = requests_of d1.asked s.front in
-    let back = requests_of d1.asked s.back in
-    let wanted : Wanted d1.asked (key, want) = record { within = next_within limit w d context what a; want = rw is q } in
-    let split : requests_of d1.asked w.requests.wants ≡ front ++ back = ap (λ (l : List (Key × Want)). requests_of d1.asked l) s.before ∙ map-append _ s.front s.back in
+dropped_goes : (h limit : ℕ) (w : World) (d : Desk) (context : List ℕ) (what : What) (N : List Note → Type 0) (k : Acted) (count : ℕ) (told : List Told) → Alone h limit w d → is_used w context ≡ false
+    → Onto h (Asked h w d context what) N w.group k → marks_of 1 told ≡ marks.Asks context what ∷ marks.Leaves context ∷ [] → Goes h limit d (record { world = after h context k count w; told = told })
+dropped_goes h limit w d context what N k count told a unused o m =
+    let s = seen_at h w in
+    let d2 = closing s d context what in
+    let g = replica_agrees h limit (replica_at w.group h) (replica_at k.group h) (node_at w h) (more_contexts h context w.contexts) d2 (closing_agrees h limit s d context what a.agrees) o.onward in
     record {
-      desk = record d1 { open_ones = front ++ r ∷ back };
-      asks = ask_move limit w d context what front back a unused (n.open_ones ∙ split);
-      agrees = subst (λ (x : Request). Agrees limit (record w1 { requests = after }) (record d1 { open_ones = front ++ x ∷ back })) is (opened_agrees limit w1 d1 key want after n s wanted k);
-      asked = refl;
+      desk = g.0;
+      alone = record { lone = o.lone; nodes = a.nodes; limit_is = a.limit_is; agrees = g.2 };
+      moves = rw m (dropped_moves h limit s d g.0 context what a.agrees unused g.1);
     }
 
--- after that the replica goes on
-pub opened_goes : (limit : ℕ) (w : World) (d : Desk) (context : List ℕ) (what : What) (after : Open) (r : Replica) (told : List Told) → Opens limit w d context what after → Onward (Entered (asked_with w d context what)) w.replica r
-    → marks_of 1 told ≡ marks.Asks context what ∷ [] → Goes limit d (record { world = record (named w context) { replica = r; requests = after }; told = told })
-opened_goes limit w d context what after r told o n m =
-    let w1 : World = record (named w context) { requests = after } in
-    let g = onward_agrees limit w1 o.desk r o.agrees (subst (λ (l : List Request). Onward (Entered l) w.replica r) (sym o.asked) n) in
-    record { desk = g.0; agrees = g.2; moves = rw m (next_moves limit d o.desk g.0 (marks.Asks context what) [] o.asks (growth_moves limit o.desk g.0 g.1)) }
+answered_goes : (h limit : ℕ) (w : World) (d : Desk) (context query : List ℕ) (N : List Note → Type 0) (k : Acted) (count : ℕ) (told : List Told) → Alone h limit w d → is_used w context ≡ false
+    → Onto h (Asked h w d context (whats.Queries query)) N w.group k → (replica_at w.group h).commit ≤ (node_at w h).cell.applied
+    → marks_of 1 told ≡ marks.Asks context (whats.Queries query) ∷ marks.Reads context (node_at w h).cell.applied (answer (node_at w h).cell.pairs query) ∷ [] → Goes h limit d (record { world = after h context k count w; told = told })
+answered_goes h limit w d context query N k count told a unused o late m =
+    let s = seen_at h w in
+    let what = whats.Queries query in
+    let d2 = closing s d context what in
+    let g = replica_agrees h limit (replica_at w.group h) (replica_at k.group h) (node_at w h) (more_contexts h context w.contexts) d2 (closing_agrees h limit s d context what a.agrees) o.onward in
+    record {
+      desk = g.0;
+      alone = record { lone = o.lone; nodes = a.nodes; limit_is = a.limit_is; agrees = g.2 };
+      moves = rw m (answered_moves h limit s d g.0 context query a.agrees unused late g.1);
+    }
+
+-- a request that opens, and then the replica goes on
+opened_goes : (h limit : ℕ) (w : World) (d : Desk) (context : List ℕ) (what : What) (N : List Note → Type 0) (k : Acted) (count : ℕ) (next : Open) (told : List Told) → Alone h limit w d
+    → Onto h (Asked h w d context what) N w.group k → Opens h limit (seen_at h w) d context what next → marks_of 1 told ≡ marks.Asks context what ∷ []
+    → Goes h limit d (record { world = Run.with_node h (record { cell = (node_at w h).cell; requests = next }) (after h context k count w); told = told })
+opened_goes h limit w d context what N k count next told a o p m =
+    let n : Node = record { cell = (node_at w h).cell; requests = next } in
+    let onward : Onward (Entered h p.desk.asked) (replica_at w.group h) (replica_at k.group h) =
+    subst (λ (l : List Request). Onward (Entered h l) (replica_at w.group h) (replica_at k.group h)) (sym p.asked) o.onward in
+    let g = replica_agrees h limit (replica_at w.group h) (replica_at k.group h) n (more_contexts h context w.contexts) p.desk p.agrees onward in
+    record {
+      desk = g.0;
+      alone = node_alone h limit (after h context k count w) n g.0 o.lone a.nodes a.limit_is g.2;
+      moves = rw m (next_moves limit d p.desk g.0 (marks.Asks context what) [] p.asks (growth_moves limit p.desk g.0 g.1));
+    }
 
 -- ---- a proposal
 
-taken_goes : (limit : ℕ) (w : World) (d : Desk) (context : List ℕ) (p : Proposal) → Agrees limit w d → is_used w context ≡ false → Goes limit d (Run.proposed w context p (Replica.quiet (Replica.appended (next_key w) p w.replica)))
-taken_goes limit w d context p a unused =
-    let what = whats.Proposes p in
-    let n = asked_agrees limit w d context (asking w context what) a refl in
-    let within = next_within limit w d context what a in
-    let entered : Entered (asked_with w d context what) (Replica.own_entry w.replica (next_key w) p) = record { known = within.most; sort = inr (within, ap (λ (r : Request). r.what) (next_is limit w d context what a)) } in
-    opened_goes limit w d context what _ (Replica.appended (next_key w) p w.replica) _ (opens limit w d context what wants.Proposal w.requests.waiting a unused (p, refl) n.waiting)
-    (appended_onward (Entered (asked_with w d context what)) w.replica (next_key w) p a.sound entered) refl
+proposed_by : (h limit : ℕ) (w : World) (d : Desk) (context : List ℕ) (p : Proposal) (k : Acted) (count : ℕ) → Alone h limit w d → is_used w context ≡ false → Onto h (Asked h w d context (whats.Proposes p)) (IsTold (next_key w h)) w.group k
+    → IsTold (next_key w h) k.notes
+    → Goes h limit d (if Run.is_dropped k.notes then record { world = after h context k count w; told = Run.asked context (lines.Ask (next_key w h) 1 p) (Run.dropped context (next_key w h) ∷ []) }
+    else record { world = Run.opened h (next_key w h) wants.Proposal (after h context k count w); told = Run.asked context (lines.Ask (next_key w h) 1 p) [] })
+proposed_by h limit w d context p k count a unused o (inl e) = rw e (dropped_goes h limit w d context (whats.Proposes p) (IsTold (next_key w h)) k count _ a unused o refl)
+proposed_by h limit w d context p k count a unused o (inr e) =
+    let s = seen_at h w in
+    let n = closing_agrees h limit s d context (whats.Proposes p) a.agrees in
+    rw e (opened_goes h limit w d context (whats.Proposes p) (IsTold (next_key w h)) k count _ _ a o (opens h limit s d context (whats.Proposes p) wants.Proposal (node_at w h).requests.waiting a.agrees unused (p, refl) n.waiting) refl)
 
-pub proposes_goes : (limit : ℕ) (w : World) (d : Desk) (context : List ℕ) (p : Proposal) → Agrees limit w d → is_used w context ≡ false → Goes limit d (Run.proposes w context p)
-proposes_goes limit w d context p a unused =
-    cond_both (Replica.is_full w.replica || not (Replica.is_leader w.replica.role)) (Replica.tells (notes.Dropped (next_key w)) w.replica) (Replica.quiet (Replica.appended (next_key w) p w.replica)) (λ (row : Replica.Row). Goes limit d (Run.proposed w context p row))
-    (λ _. dropped_goes limit w d context (whats.Proposes p) _ a unused refl)
-    (λ _. taken_goes limit w d context p a unused)
+pub proposes_goes : (h limit : ℕ) (w : World) (d : Desk) (context : List ℕ) (p : Proposal) → Alone h limit w d → is_used w context ≡ false → Goes h limit d (Run.proposes h context p w)
+unfolding proposes
+proposes_goes h limit w d context p a unused =
+    let s = seen_at h w in
+    let what = whats.Proposes p in
+    let key = next_key w h in
+    let within = next_within h limit s d context what a.agrees in
+    let entered : Asked h w d context what (own_entry (replica_at w.group h) key p) = record { sort = inr (within, ap (λ (r : Request). r.what) (next_is h limit s d context what a.agrees)) } in
+    let o = propose_onto h key p (Asked h w d context what) w.group a.lone entered in
+    proposed_by h limit w d context p (act (inputs.Propose h key p) w.group) _ a unused o o.notes
 
 -- ---- a read
 
--- a replica that has confirmed a read
-abbrev confirmed : Replica → Replica
-confirmed r = record r { round = r.round + 1 }
-
-confirmed_onward : (P : Entry → Type 0) (r : Replica) → Sound r → Onward P r (confirmed r)
-confirmed_onward P r s = kept_onward P r (confirmed r) refl (omega arith) (record { commit = s.commit; stable = s.stable; from = s.from; pending = s.pending })
-
-answered_goes : (limit : ℕ) (w : World) (d : Desk) (context query : List ℕ) (told : List Told) → Agrees limit w d → is_used w context ≡ false → w.replica.commit ≤ w.cell.applied
-    → marks_of 1 told ≡ marks.Asks context (whats.Queries query) ∷ marks.Reads context w.cell.applied (answer w.cell.pairs query) ∷ [] → Goes limit d (record { world = record (named w context) { replica = confirmed w.replica }; told = told })
-answered_goes limit w d context query told a unused late m =
+waiting_goes : (h limit : ℕ) (w : World) (d : Desk) (context query : List ℕ) (N : List Note → Type 0) (k : Acted) (count : ℕ) → Alone h limit w d → is_used w context ≡ false → Onto h (Asked h w d context (whats.Queries query)) N w.group k
+    → Goes h limit d (record { world = Run.opened_read h (next_key w h) query (Some (replica_at w.group h).commit) (after h context k count w); told = Run.asked context (lines.AskRead (next_key w h) 1 query) [] })
+waiting_goes h limit w d context query N k count a unused o =
+    let s = seen_at h w in
     let what = whats.Queries query in
-    let d1 = opening w d context what in
-    let d2 = closing w d context what in
-    let n : Agrees limit (named w context) d2 = asked_agrees limit w d context (asking w context what) a refl in
-    let g = onward_agrees limit (named w context) d2 (confirmed w.replica) n (confirmed_onward (Entered d2.asked) w.replica n.sound) in
-    let list = take w.replica.commit w.replica.log in
-    let front = take w.cell.applied w.replica.log in
-    let back = drop w.cell.applied list in
-    let split : list ≡ front ++ back = sym (take-append-drop w.cell.applied list) ∙ ap (λ (l : List Entry). l ++ back) (take-take w.cell.applied w.replica.commit w.replica.log a.applied) in
-    let decided : d.decided ≡ map (placed w.contexts) (front ++ back) = a.decided ∙ ap (λ (l : List Entry). map (placed w.contexts) l) split in
-    let read = marks.Reads context w.cell.applied (answer w.cell.pairs query) in
-    record {
-      desk = g.0;
-      agrees = g.2;
-      moves = rw m (next_moves limit d d1 g.0 (marks.Asks context what) (read ∷ []) (ask_move limit w d context what [] d.open_ones a unused refl)
-          (next_moves limit d1 d2 g.0 read [] (answer_move limit w.contexts d1 d2 front back w.cell context query w.replica.commit decided (fed_log limit w d a) late (close_move w d context what)) (growth_moves limit d2 g.0 g.1)));
-    }
+    let key = next_key w h in
+    let asked = asked_with s d context what in
+    let n = closing_agrees h limit s d context what a.agrees in
+    let is = next_is h limit s d context what a.agrees in
+    let x : Waiting = record { front = s.commit; key = key } in
+    let reading : Waits h asked x = record { within = next_within h limit s d context what a.agrees; query = query; what = ap (λ (r : Request). r.what) is; late = rw is (omega arith) } in
+    let waiting = insert_key waiting_order s.requests.waiting x in
+    opened_goes h limit w d context what N k count _ _ a o (opens h limit s d context what (wants.Read query) waiting a.agrees unused refl (insert_all (Waits h asked) waiting_order x s.requests.waiting reading n.waiting)) refl
 
-waiting_goes : (limit : ℕ) (w : World) (d : Desk) (context query : List ℕ) (told : List Told) → Agrees limit w d → is_used w context ≡ false → marks_of 1 told ≡ marks.Asks context (whats.Queries query) ∷ []
-    → Goes limit d (record {
-      world = record (named w context) {
-        replica = confirmed w.replica;
-        requests = record {
-          wants = insert_entry key_order w.requests.wants (next_key w) (wants.Read query);
-          waiting = insert_key waiting_order w.requests.waiting (record { front = w.replica.commit; key = next_key w });
-        };
-      };
-      told = told;
-    })
-waiting_goes limit w d context query told a unused m =
-    let what = whats.Queries query in
-    let key = next_key w in
-    let asked = asked_with w d context what in
-    let n = asked_agrees limit w d context (asking w context what) a refl in
-    let is = next_is limit w d context what a in
-    let x : Waiting = record { front = w.replica.commit; key = key } in
-    let reading : Waits asked x = record { within = next_within limit w d context what a; query = query; what = ap (λ (r : Request). r.what) is; late = rw is (omega arith) } in
-    let waiting = insert_key waiting_order w.requests.waiting x in
-    opened_goes limit w d context what _ (confirmed w.replica) told
-    (opens limit w d context what (wants.Read query) waiting a unused refl (insert_all (Waits asked) waiting_order x w.requests.waiting reading n.waiting)) (confirmed_onward (Entered asked) w.replica a.sound) m
+read_by : (h limit : ℕ) (w : World) (d : Desk) (context query : List ℕ) (k : Acted) (count : ℕ) → Alone h limit w d → is_used w context ≡ false → Onto h (Asked h w d context (whats.Queries query)) (IsHeard h (next_key w h) (replica_at w.group h).commit) w.group k
+    → IsHeard h (next_key w h) (replica_at w.group h).commit k.notes
+    → Goes h limit d (if Run.is_dropped k.notes then record { world = after h context k count w; told = Run.asked context (lines.AskRead (next_key w h) 1 query) (Run.dropped context (next_key w h) ∷ []) }
+    else Run.read_taken h (next_key w h) context query (Run.confirmed_index k.notes) (after h context k count w))
+read_by h limit w d context query k count a unused o (inl e) = rw e (dropped_goes h limit w d context (whats.Queries query) (IsHeard h (next_key w h) (replica_at w.group h).commit) k count _ a unused o refl)
+read_by h limit w d context query k count a unused o (inr e) =
+    let commit = (replica_at w.group h).commit in
+    let applied = (node_at w h).cell.applied in
+    rw e (cond_both (nat_le commit applied) _ _ (Goes h limit d)
+    (λ l. answered_goes h limit w d context query (IsHeard h (next_key w h) commit) k count _ a unused o (leb-true commit applied l) refl)
+    (λ _. waiting_goes h limit w d context query (IsHeard h (next_key w h) commit) k count a unused o))
 
-pub reads_goes : (limit : ℕ) (w : World) (d : Desk) (context query : List ℕ) → Agrees limit w d → is_used w context ≡ false → Goes limit d (Run.read_asked w context query (Replica.on_local_read (next_key w) w.replica))
-reads_goes limit w d context query a unused =
-    cond_both (Replica.is_full w.replica || not (Replica.may_read w.replica)) (Replica.tells (notes.Dropped (next_key w)) w.replica) (Replica.tells (notes.Confirmed Replica.me (next_key w) w.replica.commit) (confirmed w.replica))
-    (λ (row : Replica.Row). Goes limit d (Run.read_asked w context query row))
-    (λ _. dropped_goes limit w d context (whats.Queries query) _ a unused refl)
-    (λ _. cond_both (nat_le w.replica.commit w.cell.applied) _ _ (Goes limit d)
-    (λ e. answered_goes limit w d context query _ a unused (leb-true w.replica.commit w.cell.applied e) refl)
-    (λ _. waiting_goes limit w d context query _ a unused refl))
+pub reads_goes : (h limit : ℕ) (w : World) (d : Desk) (context query : List ℕ) → Alone h limit w d → is_used w context ≡ false → Goes h limit d (Run.read_asked h (next_key w h) context query w)
+unfolding read_asked
+reads_goes h limit w d context query a unused =
+    let key = next_key w h in
+    let o = ask_onto h key (Asked h w d context (whats.Queries query)) w.group a.lone in
+    read_by h limit w d context query (act (inputs.Ask h key) w.group) _ a unused o o.notes

@@ -1,11 +1,14 @@
 -- A run tells nothing of any group but 1.
 use Rattle.std.proofs.Common.{◌≡◌, ℕ, ◌==◌, List, [], ◌∷◌, ◌++◌, Bool, false, Option, Some, None, cond, map, refl}
-use Rattle.std.specs.Prelude.{nat_lt}
 use Rattle.std.proofs.lemmas.Bool.{cond_both}
+use Rattle.host_ids.specs.declared.entry.Batch.{Batch}
 use Rattle.host_ids.specs.declared.entry.Key.{Key}
 use Rattle.host_ids.specs.declared.entry.Entry.{Entry}
 use Rattle.host_ids.specs.declared.proposal.Proposal.{Proposal}
 use Rattle.object_model.specs.declared.mark.Ending.{Ending}
+use Rattle.raft_model.specs.declared.event.LaneEvent.{LaneEvent}
+use Rattle.raft_model.specs.declared.event.LaneEvent.TheVariants as inputs
+use Rattle.raft_model.specs.Group.{act, replica_at}
 use Rattle.run_model.specs.declared.script.HostEvent.{HostEvent}
 use Rattle.run_model.specs.declared.script.HostEvent.TheVariants as events
 use Rattle.run_model.specs.declared.told.Told.{Told}
@@ -14,16 +17,14 @@ use Rattle.run_model.specs.declared.told.Want.TheVariants as wants
 use Rattle.run_model.specs.declared.told.Stop.{Stop}
 use Rattle.run_model.specs.declared.told.Stop.TheVariants.{Ended, Bad, Full, Spent}
 use Rattle.run_model.specs.declared.line.Line.TheVariants as lines
-use Rattle.run_model.specs.Replica
-use Rattle.run_model.specs.World.{World, Cell}
-use Rattle.run_model.specs.Script.{parts_of}
+use Rattle.run_model.specs.World.{World, Cell, node_at}
 use Rattle.run_model.specs.Run
-use Rattle.run_model.specs.Run.{Step, applied, answered}
+use Rattle.run_model.specs.Run.{Step, applied, answered, event_step, proposes, read_asked, grouped}
 use Rattle.run_model.specs.Marks.{marks_of}
 use Rattle.run_law.proofs.Joining.{marks_of-append}
 use Rattle.run_law.proofs.Going.{notes_marks}
 use Rattle.run_law.proofs.Turns.{Between, IsDone}
-use Rattle.run_law.proofs.Phases.{run_begins}
+use Rattle.run_law.proofs.Phases.{outcome_done}
 
 -- the group isn't 1
 pub record IsOther (g : ℕ) : Type 0 where
@@ -38,27 +39,27 @@ both_silent g a b p q = rw (marks_of-append, p, q) refl
 
 -- ---- an apply
 
-ended_silent : (g : ℕ) (contexts : List (List ℕ)) (key : Key) (place : ℕ) (ending : Ending) (o : Option Want) → IsOther g → IsSilent g (Run.ended o contexts key (lines.Ended key 1 place ending))
+ended_silent : (g : ℕ) (contexts : List (List (List ℕ))) (key : Key) (place : ℕ) (ending : Ending) (o : Option Want) → IsOther g → IsSilent g (Run.ended o contexts key (lines.Ended key 1 place ending))
 ended_silent g contexts key place ending None n = refl
 ended_silent g contexts key place ending (Some want) n = rw n.differs refl
 
-one_silent : (g : ℕ) (contexts : List (List ℕ)) (key : Key) (c : Cell) (ws : List (Key × Want)) (o : Option Ending) → IsOther g → IsSilent g (Run.ended_with o contexts key c ws).told
+one_silent : (g : ℕ) (contexts : List (List (List ℕ))) (key : Key) (c : Cell) (ws : List (Key × Want)) (o : Option Ending) → IsOther g → IsSilent g (Run.ended_with o contexts key c ws).told
 one_silent g contexts key c ws None n = refl
 one_silent g contexts key c ws (Some ending) n = ended_silent g contexts key c.applied ending (Run.want_of key ws) n
 
-applied_silent : (g : ℕ) (contexts : List (List ℕ)) (es : List Entry) (c : Cell) (ws : List (Key × Want)) → IsOther g → IsSilent g (applied contexts es c ws).told
+applied_silent : (g : ℕ) (contexts : List (List (List ℕ))) (es : List Entry) (c : Cell) (ws : List (Key × Want)) → IsOther g → IsSilent g (applied contexts es c ws).told
 unfolding applied
 applied_silent g contexts [] c ws n = refl
 applied_silent g contexts (e ∷ es) c ws n =
     let first = Run.applied_by contexts e.proposal e.key c ws in
     both_silent g first.told (applied contexts es first.cell first.wants).told (one_silent g contexts e.key (Run.given e.proposal c) ws (Run.ending_of e.proposal c) n) (applied_silent g contexts es first.cell first.wants n)
 
-answer_silent : (g : ℕ) (contexts : List (List ℕ)) (c : Cell) (key : Key) (o : Option Want) → IsOther g → IsSilent g (Run.answer_told contexts c key o)
+answer_silent : (g : ℕ) (contexts : List (List (List ℕ))) (c : Cell) (key : Key) (o : Option Want) → IsOther g → IsSilent g (Run.answer_told contexts c key o)
 answer_silent g contexts c key None n = refl
 answer_silent g contexts c key (Some wants.Proposal) n = refl
 answer_silent g contexts c key (Some (wants.Read query)) n = rw n.differs refl
 
-answered_silent : (g : ℕ) (contexts : List (List ℕ)) (c : Cell) (keys : List Key) (ws : List (Key × Want)) → IsOther g → IsSilent g (answered contexts c keys ws).told
+answered_silent : (g : ℕ) (contexts : List (List (List ℕ))) (c : Cell) (keys : List Key) (ws : List (Key × Want)) → IsOther g → IsSilent g (answered contexts c keys ws).told
 unfolding answered
 answered_silent g contexts c [] ws n = refl
 answered_silent g contexts c (key ∷ keys) ws n =
@@ -69,24 +70,40 @@ answered_silent g contexts c (key ∷ keys) ws n =
 by_cond : (g : ℕ) (b : Bool) (x y : Step) → IsSilent g x.told → IsSilent g y.told → IsSilent g (cond b x y).told
 by_cond g b x y p q = cond_both b x y (λ (s : Step). IsSilent g s.told) (λ _. p) (λ _. q)
 
-apply_silent : (g : ℕ) (w : World) (most : ℕ) → IsOther g → IsSilent g (Run.apply w most).told
-apply_silent g w most n =
-    let a = applied w.contexts (Run.next_entries w most) w.cell w.requests.wants in
-    by_cond g (nat_lt w.cell.applied (Replica.ripe w.replica)) (Run.applies w a) (Run.tells w lines.Idle)
-    (both_silent g a.told (Run.answers_due w a).told (applied_silent g w.contexts (Run.next_entries w most) w.cell w.requests.wants n) (answered_silent g w.contexts a.cell _ a.wants n)) refl
+core_silent : (g h : ℕ) (e : LaneEvent) (w : World) → IsSilent g (Run.core h e w).told
+core_silent g h e w = notes_marks g (act e w.group).notes
 
-event_silent : (g : ℕ) (w : World) (event : HostEvent) → IsOther g → IsSilent g (Run.event_step event w).told
-event_silent g w (events.Timeout group) n = notes_marks g (Replica.on_timeout w.replica).notes
-event_silent g w (events.Save group) n = notes_marks g (Replica.on_save w.replica).notes
-event_silent g w (events.Apply group most) n = apply_silent g w most n
+handed_silent : (g h : ℕ) (o : Option Batch) (w : World) → IsSilent g (Run.handed_back h o w).told
+handed_silent g h None w = refl
+handed_silent g h (Some b) w = core_silent g h (inputs.Saved h b.id) w
 
-proposed_silent : (g : ℕ) (w : World) (context : List ℕ) (p : Proposal) (row : Replica.Row) → IsOther g → IsSilent g (Run.proposed w context p row).told
-proposed_silent g w context p row n = by_cond g (Run.is_dropped row) _ _ (rw n.differs refl) (rw n.differs refl)
+apply_silent : (g h most : ℕ) (w : World) → IsOther g → IsSilent g (Run.apply h most w).told
+apply_silent g h most w n =
+    let node = node_at w h in
+    let es = Run.next_entries (replica_at w.group h) node.cell most in
+    let a = applied w.contexts es node.cell node.requests.wants in
+    by_cond g (Run.is_ripe w h) (Run.applies h node a w) (Run.tells w lines.Idle)
+    (both_silent g a.told (Run.answers_due w.contexts node a).told (applied_silent g w.contexts es node.cell node.requests.wants n) (answered_silent g w.contexts a.cell _ a.wants n)) refl
 
-read_silent : (g : ℕ) (w : World) (context query : List ℕ) (row : Replica.Row) → IsOther g → IsSilent g (Run.read_asked w context query row).told
-read_silent g w context query row n =
-    by_cond g (Run.is_dropped row) _ _ (rw n.differs refl)
-    (by_cond g (Run.is_reached (Run.confirmed_index row.notes) w.cell.applied) _ _ (rw n.differs refl) (rw n.differs refl))
+event_silent : (g h : ℕ) (w : World) (event : HostEvent) → IsOther g → IsSilent g (Run.event_step h event w).told
+unfolding event_step
+event_silent g h w (events.Timeout group) n = core_silent g h (inputs.Timeout h) w
+event_silent g h w (events.Beat group) n = core_silent g h (inputs.Beat h) w
+event_silent g h w (events.Ready group) n = core_silent g h (inputs.Ready h) w
+event_silent g h w (events.Save group) n = let v = Run.taken h w in handed_silent g h (Run.pending_at v h) v
+event_silent g h w (events.Apply group most) n = apply_silent g h most w n
+
+proposes_silent : (g h : ℕ) (w : World) (context : List ℕ) (p : Proposal) → IsOther g → IsSilent g (Run.proposes h context p w).told
+unfolding proposes
+proposes_silent g h w context p n = by_cond g (Run.is_dropped (Run.noted (inputs.Propose h (Run.next_key w h) p) w)) _ _ (rw n.differs refl) (rw n.differs refl)
+
+reads_silent : (g h : ℕ) (w : World) (context query : List ℕ) → IsOther g → IsSilent g (Run.read_asked h (Run.next_key w h) context query w).told
+unfolding read_asked
+reads_silent g h w context query n =
+    let key = Run.next_key w h in
+    let ns = Run.noted (inputs.Ask h key) w in
+    by_cond g (Run.is_dropped ns) _ (Run.read_taken h key context query (Run.confirmed_index ns) (Run.moved h (inputs.Ask h key) (Run.named h context w))) (rw n.differs refl)
+    (by_cond g (Run.is_reached (Run.confirmed_index ns) _) _ _ (rw n.differs refl) (rw n.differs refl))
 
 -- ---- the run
 
@@ -94,15 +111,19 @@ abbrev Says : ℕ → Between
 Says g w told v = IsSilent g told
 
 silence_done : (g : ℕ) → IsOther g → IsDone (Says g)
+unfolding grouped
 silence_done g n = record {
   nothing = λ w. refl;
   next = λ u v w a b p q. both_silent g a b p q;
-  started = λ w host. refl;
-  refused = λ w number. refl;
+  mute = λ w line k. rw (k g) refl;
+  declared = λ w hosts. refl;
   clients = λ w clients. refl;
-  event = λ w event. event_silent g w event n;
-  propose = λ w context p unused. proposed_silent g w context p (Replica.on_local_proposal (Run.next_key w) p w.replica) n;
-  read = λ w context query unused. read_silent g w context query (Replica.on_local_read (Run.next_key w) w.replica) n;
+  settled = λ w number. refl;
+  grouped = λ w roster limit e k l. refl;
+  event = λ w host event member. event_silent g host w event n;
+  deliver = λ w e number is. core_silent g e.to (inputs.Deliver number) w;
+  propose = λ w host context p member unused. proposes_silent g host w context p n;
+  read = λ w host context query member unused. reads_silent g host w context query n;
 }
 
 entries_silent : (g : ℕ) (w : World) (es : List Entry) → IsOther g → IsSilent g (map (Run.entry_told w) es)
@@ -110,14 +131,14 @@ entries_silent g w [] n = refl
 entries_silent g w (e ∷ es) n = rw (n.differs, entries_silent g w es n) refl
 
 last_silent : (g : ℕ) (w : World) (stop : Stop) → IsOther g → IsSilent g (Run.ending stop w)
-last_silent g w Ended n = both_silent g (map (Run.entry_told w) (Run.decided_entries w)) (Run.bare lines.End ∷ []) (entries_silent g w (Run.decided_entries w) n) refl
+last_silent g w Ended n = both_silent g (map (Run.entry_told w) w.group.decided) (Run.bare lines.End ∷ []) (entries_silent g w w.group.decided n) refl
 last_silent g w (Bad line) n = refl
 last_silent g w (Full limit) n = refl
 last_silent g w (Spent line) n = refl
 
 -- the lines before the last ones, and all of them
 pub so_far_silent : (g : ℕ) (text : List ℕ) → IsOther g → IsSilent g (Run.outcome_of text).told
-so_far_silent g text n = (run_begins (Says g) (silence_done g n) 0 0 (parts_of text)).runs
+so_far_silent g text n = outcome_done (Says g) (silence_done g n) text
 
 pub all_silent : (g : ℕ) (text : List ℕ) → IsOther g → IsSilent g (Run.all_told (Run.outcome_of text))
 all_silent g text n =

@@ -13,7 +13,7 @@ use Rattle.std.proofs.lemmas.Option.{none-some, same_Some}
 use Rattle.std.proofs.lemmas.Map.Lookups.{exact_unsigned}
 use Rattle.host_ids.specs.declared.entry.Key.{Key}
 use Rattle.run_model.specs.declared.told.Waiting.{Waiting}
-use Rattle.run_model.specs.World.{key_order}
+use Rattle.raft_model.specs.Group.{key_order}
 use Rattle.run_model.specs.Run.{due, not_due, keys_with}
 
 -- an order that asks a second one where it is equal is equal only if that is

@@ -1,4 +1,3 @@
-pub mod Replica
 pub mod World
 pub mod Script
 pub mod Print

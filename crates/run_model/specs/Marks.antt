@@ -21,6 +21,7 @@ line_marks g context (lines.AskRead key group query) = of_group g group (marks.A
 line_marks g context (lines.Ended key group place ending) = of_group g group (marks.Ends context place ending)
 line_marks g context (lines.Read key group front answer) = of_group g group (marks.Reads context front answer)
 line_marks g context (lines.Dropped key group) = of_group g group (marks.Leaves context)
+line_marks g context (lines.Wire group number from to kind term) = []
 line_marks g context (lines.Entry group entry) = of_group g group (marks.Shows (record { context = context; proposal = entry.proposal }))
 line_marks g context (lines.Reached limit) = []
 line_marks g context lines.Usage = []

@@ -4,6 +4,8 @@ use Rattle.host_ids.specs.declared.proposal.Proposal.{Proposal}
 use Rattle.host_ids.specs.declared.proposal.Proposal.TheVariants as proposals
 use Rattle.object_model.specs.declared.mark.Ending.{Ending}
 use Rattle.object_model.specs.declared.mark.Ending.TheVariants as endings
+use Rattle.run_model.specs.declared.kind.EnvelopeKind.{EnvelopeKind}
+use Rattle.run_model.specs.declared.kind.EnvelopeKind.TheVariants as kinds
 use Rattle.run_model.specs.declared.limit.Limit.{Limit}
 use Rattle.run_model.specs.declared.limit.Limit.TheVariants as limits
 use Rattle.run_model.specs.declared.line.Line.{Line}
@@ -38,7 +40,21 @@ ending_text context place endings.Closed = codes "closed" · context · decimal 
 
 abbrev pub limit_text : Limit → List ℕ
 limit_text limits.Entries = codes "limit entries 200000"
+limit_text limits.Envelopes = codes "limit envelopes 400000"
 limit_text limits.Script = codes "limit script 67108864"
+
+abbrev pub kind_text : EnvelopeKind → List ℕ
+kind_text kinds.Vote = codes "vote"
+kind_text kinds.VoteReply = codes "votereply"
+kind_text kinds.Append = codes "append"
+kind_text kinds.AppendReply = codes "appendreply"
+kind_text kinds.Beat = codes "beat"
+kind_text kinds.BeatReply = codes "beatreply"
+kind_text kinds.SnapChunk = codes "snapchunk"
+kind_text kinds.SnapReply = codes "snapreply"
+kind_text kinds.Propose = codes "propose"
+kind_text kinds.ReadAsk = codes "readask"
+kind_text kinds.ReadAnswer = codes "readanswer"
 
 abbrev pub line_text : List ℕ → Line → List ℕ
 line_text context (lines.Started host start) = codes "started" · decimal host · decimal start
@@ -50,6 +66,7 @@ line_text context (lines.AskRead key group query) = codes "ask" · context · de
 line_text context (lines.Ended key group place ending) = ending_text context place ending
 line_text context (lines.Read key group front answer) = codes "read" · context · decimal front · shown_text answer
 line_text context (lines.Dropped key group) = codes "dropped" · context
+line_text context (lines.Wire group number from to kind term) = codes "wire" · decimal group · decimal number · decimal from · decimal to · kind_text kind · decimal term
 line_text context (lines.Entry group entry) = codes "entry" · decimal group · decimal entry.index · context · proposal_text entry.proposal
 line_text context (lines.Reached limit) = limit_text limit
 line_text context lines.Usage = codes "usage"

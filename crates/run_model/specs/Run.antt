@@ -1,22 +1,38 @@
 -- A run: what each line of a script does to the world, and the lines that it prints. Source: this project's own.
-use Rattle.std.specs.Prelude.{ℕ, zero, suc, ◌+◌, ◌-◌, ◌==◌, List, [], ◌∷◌, ◌++◌, Bool, true, false, ◌||◌, Option, Some, None, nat_lt, nat_le, length, take, drop, min, map, slice_get, unwrap_or, is_some, codes, bytes_eq, if◌then◌else◌}
-use Rattle.std.specs.List.{list_any, flat_map}
+use Rattle.std.specs.Prelude.{ℕ, zero, suc, ◌+◌, ◌-◌, ◌==◌, List, [], ◌∷◌, ◌++◌, Bool, true, false, not, ◌||◌, ◌&&◌, Option, Some, None, nat_lt, nat_le, length, take, drop, min, map, replicate, slice_get, slice_set, unwrap_or, is_some, codes, bytes_eq, if◌then◌else◌}
+use Rattle.std.specs.List.{list_any, list_all, flat_map}
+use Rattle.std.specs.Option.{option_map}
 use Rattle.std.specs.BTreeMap.{insert_entry, is_at}
 use Rattle.std.specs.BTreeSet.{insert_key}
 use Rattle.std.specs.Map.{lookup, remove_entry}
+use Rattle.host_ids.specs.declared.entry.Batch.{Batch}
 use Rattle.host_ids.specs.declared.entry.Entry.{Entry}
 use Rattle.host_ids.specs.declared.entry.Key.{Key}
 use Rattle.host_ids.specs.declared.proposal.Proposal.{Proposal}
 use Rattle.host_ids.specs.declared.proposal.Proposal.TheVariants as proposals
 use Rattle.host_ids.specs.declared.verdict.Verdict.{Verdict}
 use Rattle.host_ids.specs.declared.verdict.Verdict.TheVariants as verdicts
+use Rattle.wire_codec.specs.declared.envelope.Envelope.{Envelope}
+use Rattle.wire_codec.specs.declared.envelope.Body.{Body}
+use Rattle.wire_codec.specs.declared.envelope.Body.TheVariants as bodies
+use Rattle.log_view.specs.Log.{last}
 use Rattle.object_model.specs.declared.mark.Ending.{Ending}
 use Rattle.object_model.specs.Object.{answer, key_order as text_order}
 use Rattle.object_model.specs.Sequence.{does_act, effect_of, ending_by}
 use Rattle.session_lru.specs.Table.{Table}
 use Rattle.session_lru.specs.Calls.{session_of, register_verdict, registered, close_verdict, closed, admit_verdict}
 use Rattle.session_lru.specs.Follow.{commanded}
+use Rattle.raft_model.specs.declared.event.LaneEvent.{LaneEvent}
+use Rattle.raft_model.specs.declared.event.LaneEvent.TheVariants as inputs
+use Rattle.raft_model.specs.declared.note.Note.{Note}
+use Rattle.raft_model.specs.declared.note.Note.TheVariants as notes
+use Rattle.raft_model.specs.declared.state.State.{State as Replica}
+use Rattle.raft_model.specs.Replica.{is_leader, is_changed, ripe}
+use Rattle.raft_model.specs.Saving.{is_stuck}
+use Rattle.raft_model.specs.Group.{Group, act, envelope_at, fresh_group, is_member, key_order, replica_at}
 use Rattle.run_model.specs.declared.client.ClientSession.{ClientSession}
+use Rattle.run_model.specs.declared.kind.EnvelopeKind.{EnvelopeKind}
+use Rattle.run_model.specs.declared.kind.EnvelopeKind.TheVariants as kinds
 use Rattle.run_model.specs.declared.script.ScriptLine.{ScriptLine}
 use Rattle.run_model.specs.declared.script.ScriptLine.TheVariants as script
 use Rattle.run_model.specs.declared.script.Setup.{Setup}
@@ -27,17 +43,13 @@ use Rattle.run_model.specs.declared.limit.Limit.{Limit}
 use Rattle.run_model.specs.declared.limit.Limit.TheVariants as limits
 use Rattle.run_model.specs.declared.line.Line.{Line}
 use Rattle.run_model.specs.declared.line.Line.TheVariants as lines
-use Rattle.run_model.specs.declared.replica.Note.{Note}
-use Rattle.run_model.specs.declared.replica.Note.TheVariants as notes
 use Rattle.run_model.specs.declared.told.Told.{Told}
 use Rattle.run_model.specs.declared.told.Want.{Want}
 use Rattle.run_model.specs.declared.told.Want.TheVariants as wants
 use Rattle.run_model.specs.declared.told.Waiting.{Waiting}
 use Rattle.run_model.specs.declared.told.Stop.{Stop}
 use Rattle.run_model.specs.declared.told.Stop.TheVariants.{Ended, Bad, Full, Spent}
-use Rattle.run_model.specs.declared.replica.Replica.{Replica}
-use Rattle.run_model.specs.Replica.{Row, fresh, on_timeout, on_save, on_local_proposal, on_local_read, ripe, last, is_changed, is_pending}
-use Rattle.run_model.specs.World.{Cell, Open, World, start, new_cell, most_sessions, key_order, waiting_order}
+use Rattle.run_model.specs.World.{Cell, Node, World, start, new_node, node_at, contexts_at, is_declared, most_sessions, waiting_order}
 use Rattle.run_model.specs.Script.{read_line, setup_after, is_end, parts_of, most_series}
 use Rattle.run_model.specs.Print.{print_line}
 
@@ -46,12 +58,16 @@ use Rattle.run_model.specs.Print.{print_line}
 abbrev pub bare : Line → Told
 bare line = record { context = codes "-"; line = line }
 
--- the context of the request with this serial, `-` at 0, where there is none
-abbrev pub context_at : List (List ℕ) → ℕ → List ℕ
-context_at contexts serial = if serial == 0 then codes "-" else unwrap_or (slice_get contexts (serial - 1)) (codes "?")
+-- the context of a host's request by its serial, `-` at 0, where there is none
+abbrev pub context_by : List (List ℕ) → ℕ → List ℕ
+context_by contexts serial = if serial == 0 then codes "-" else unwrap_or (slice_get contexts (serial - 1)) (codes "?")
 
-abbrev pub shows : List (List ℕ) → Key → Line → Told
-shows contexts key line = record { context = context_at contexts key.serial; line = line }
+-- the context of a request
+abbrev pub context_at : List (List (List ℕ)) → Key → List ℕ
+context_at contexts key = context_by (contexts_at contexts key.host) key.serial
+
+abbrev pub shows : List (List (List ℕ)) → Key → Line → Told
+shows contexts key line = record { context = context_at contexts key; line = line }
 
 -- the world after an event, and the lines of the event
 pub record Step : Type 0 where
@@ -64,34 +80,120 @@ quiet w = record { world = w; told = [] }
 abbrev pub tells : World → Line → Step
 tells w line = record { world = w; told = bare line ∷ [] }
 
--- the lines of what an event of the core told
+-- ---- refusals: they are tried in the order of their numbers, and change nothing
+
+-- refused with a number where this holds, else the step
+abbrev pub unless : Bool → ℕ → World → Step → Step
+unless b number w s = if b then tells w (lines.Refused number) else s
+
+-- the group is declared: it has voters
+abbrev pub has_any : List ℕ → Bool
+has_any [] = false
+has_any (v ∷ vs) = true
+
+abbrev pub has_group : World → Bool
+has_group w = has_any w.group.voters
+
+-- an event at a host that is declared and has a replica of the group
+abbrev pub at_replica : ℕ → World → Step → Step
+at_replica h w s = unless (not (is_declared w h)) 1 w (unless (not (is_member w.group h)) 2 w s)
+
+-- ---- events of the core
+
+-- how many entries an event appended at a host's replica, if that leads behind it: only leaders append
+abbrev pub appended_at : ℕ → Group → Group → ℕ
+appended_at h old new = if is_leader (replica_at new h) then last (replica_at new h).log - last (replica_at old h).log else 0
+
+-- a run stops where leaders have appended so many entries
+abbrev pub most_entries : ℕ
+most_entries = 200000
+
+-- the world after an event of the core that moves the replica of a host; appended entries are counted up to the number at which a run stops
+abbrev pub moved : ℕ → LaneEvent → World → World
+moved h e w = let g = (act e w.group).group in record w { group = g; appended = min most_entries (w.appended + appended_at h w.group g) }
+
+abbrev pub noted : LaneEvent → World → List Note
+noted e w = (act e w.group).notes
+
+-- the lines of what an event of the core noted
 abbrev pub note_told : Note → List Told
 note_told (notes.Leader host term) = bare (lines.Leader host 1 term) ∷ []
+note_told (notes.Pending host id) = []
 note_told notes.Idle = bare lines.Idle ∷ []
 note_told (notes.Dropped key) = []
 note_told (notes.Confirmed host key index) = []
 
-abbrev pub after_row : World → Row → Step
-after_row w row = record { world = record w { replica = row.replica }; told = flat_map note_told row.notes }
+abbrev pub core : ℕ → LaneEvent → World → Step
+core h e w = record { world = moved h e w; told = flat_map note_told (noted e w) }
 
-abbrev pub timeout : World → Step
-timeout w = after_row w (on_timeout w.replica)
+-- the pending batch of a host's replica
+abbrev pub pending_at : World → ℕ → Option Batch
+pending_at w h = option_map (λ p. p.batch) (replica_at w.group h).pending
 
-abbrev pub save : World → Step
-save w = after_row w (on_save w.replica)
+-- takes a batch where none is pending
+abbrev pub taken : ℕ → World → World
+taken h w = if is_some (pending_at w h) then w else moved h (inputs.Ready h) w
+
+-- hands a batch back as saved; idle without one
+abbrev pub handed_back : ℕ → Option Batch → World → Step
+handed_back h None w = tells w lines.Idle
+handed_back h (Some b) w = core h (inputs.Saved h b.id) w
+
+abbrev pub save : ℕ → World → Step
+save h w = handed_back h (pending_at (taken h w) h) (taken h w)
+
+-- an envelope arrives where it is for
+abbrev pub arrives : Option Envelope → ℕ → World → Step
+arrives None number w = tells w (lines.Refused 9)
+arrives (Some e) number w = core e.to (inputs.Deliver number) w
+
+unfoldable pub deliver : ℕ → World → Step
+deliver number w = unless (not (has_group w)) 2 w (arrives (envelope_at w.group.wire number) number w)
+
+-- what an envelope says
+abbrev pub kind_of : Body → EnvelopeKind
+kind_of (bodies.Vote l lt) = kinds.Vote
+kind_of (bodies.VoteReply granted) = kinds.VoteReply
+kind_of (bodies.Append prev prev_term commit entries) = kinds.Append
+kind_of (bodies.AppendReply ok index) = kinds.AppendReply
+kind_of (bodies.Beat commit round) = kinds.Beat
+kind_of (bodies.BeatReply round) = kinds.BeatReply
+kind_of (bodies.SnapChunk index last_term number count size bytes) = kinds.SnapChunk
+kind_of (bodies.SnapReply index want whole) = kinds.SnapReply
+kind_of (bodies.Propose key proposal) = kinds.Propose
+kind_of (bodies.ReadAsk key) = kinds.ReadAsk
+kind_of (bodies.ReadAnswer key index) = kinds.ReadAnswer
+
+abbrev pub shown_by : Option Envelope → ℕ → World → Step
+shown_by None number w = tells w (lines.Refused 9)
+shown_by (Some e) number w = tells w (lines.Wire 1 number e.from e.to (kind_of e.body) e.term)
+
+unfoldable pub show : ℕ → World → Step
+show number w = unless (not (has_group w)) 2 w (shown_by (envelope_at w.group.wire number) number w)
+
+-- a settle won't deliver what was sent so far
+unfoldable pub lose : World → Step
+lose w = unless (not (has_group w)) 2 w (quiet (record w { settled = length w.group.wire }))
 
 -- ---- requests
 
--- the key of a new request
-abbrev pub next_key : World → Key
-next_key w = record { host = 1; start = 1; serial = length w.contexts + 1 }
+-- the key of a host's next request
+abbrev pub next_key : World → ℕ → Key
+next_key w h = record { host = h; start = 1; serial = length (contexts_at w.contexts h) + 1 }
 
-abbrev pub named : World → List ℕ → World
-named w context = record w { contexts = w.contexts ++ context ∷ [] }
+-- a host's next request has this context
+abbrev pub named : ℕ → List ℕ → World → World
+named h context w = record w { contexts = slice_set w.contexts h (contexts_at w.contexts h ++ context ∷ []) }
 
--- a request joins the open ones
-abbrev pub joined : Key → Want → Open → Open
-joined key want o = record o { wants = insert_entry key_order o.wants key want }
+abbrev pub with_node : ℕ → Node → World → World
+with_node h node w = record w { nodes = slice_set w.nodes h node }
+
+-- a request joins the open ones of its host
+abbrev pub joined : Key → Want → Node → Node
+joined key want n = record n { requests = record n.requests { wants = insert_entry key_order n.requests.wants key want } }
+
+abbrev pub opened : ℕ → Key → Want → World → World
+opened h key want w = with_node h (joined key want (node_at w h)) w
 
 abbrev pub without : Key → List (Key × Want) → List (Key × Want)
 without key wants = remove_entry (is_at (key_order key)) wants
@@ -100,43 +202,46 @@ abbrev pub want_of : Key → List (Key × Want) → Option Want
 want_of key wants = lookup (is_at (key_order key)) wants
 
 -- the `ask` line, and lines behind it
-abbrev pub asked : World → List ℕ → Line → List Told → List Told
-asked w context line more = record { context = context; line = line } ∷ more
+abbrev pub asked : List ℕ → Line → List Told → List Told
+asked context line more = record { context = context; line = line } ∷ more
 
-abbrev pub dropped : World → List ℕ → Told
-dropped w context = record { context = context; line = lines.Dropped (next_key w) 1 }
+abbrev pub dropped : List ℕ → Key → Told
+dropped context key = record { context = context; line = lines.Dropped key 1 }
 
 -- the core can't take the request
 abbrev pub drops : Note → Bool
 drops (notes.Leader host term) = false
+drops (notes.Pending host id) = false
 drops notes.Idle = false
 drops (notes.Dropped key) = true
 drops (notes.Confirmed host key index) = false
 
-abbrev pub is_dropped : Row → Bool
-is_dropped row = list_any drops row.notes
-
--- the index from which on a read may be answered, where the core tells one
-abbrev pub confirmed_index : List Note → Option ℕ
-confirmed_index [] = None
-confirmed_index (notes.Leader host term ∷ more) = confirmed_index more
-confirmed_index (notes.Idle ∷ more) = confirmed_index more
-confirmed_index (notes.Dropped key ∷ more) = confirmed_index more
-confirmed_index (notes.Confirmed host key index ∷ more) = Some index
+abbrev pub is_dropped : List Note → Bool
+is_dropped ns = list_any drops ns
 
 -- a proposal that the core takes joins the open requests, and one that it drops ends at once
-abbrev pub proposed : World → List ℕ → Proposal → Row → Step
-proposed w context p row =
-    if is_dropped row
-    then record { world = record (named w context) { replica = row.replica }; told = asked w context (lines.Ask (next_key w) 1 p) (dropped w context ∷ []) }
-    else record { world = record (named w context) { replica = row.replica; requests = joined (next_key w) wants.Proposal w.requests }; told = asked w context (lines.Ask (next_key w) 1 p) [] }
+abbrev pub proposed : ℕ → Key → List ℕ → Proposal → World → Step
+proposed h key context p w =
+    let e = inputs.Propose h key p in
+    let v = moved h e (named h context w) in
+    if is_dropped (noted e w)
+    then record { world = v; told = asked context (lines.Ask key 1 p) (dropped context key ∷ []) }
+    else record { world = opened h key wants.Proposal v; told = asked context (lines.Ask key 1 p) [] }
 
-abbrev pub proposes : World → List ℕ → Proposal → Step
-proposes w context p = proposed w context p (on_local_proposal (next_key w) p w.replica)
+unfoldable pub proposes : ℕ → List ℕ → Proposal → World → Step
+proposes h context p w = proposed h (next_key w h) context p w
 
--- the context was used by a request that wasn't refused
+-- the context was used by a request that wasn't refused, at any host
 abbrev pub is_used : World → List ℕ → Bool
-is_used w context = list_any (bytes_eq context) w.contexts
+is_used w context = list_any (λ contexts. list_any (bytes_eq context) contexts) w.contexts
+
+-- a command that is asked as this proposal
+unfoldable pub asks : ℕ → List ℕ → List ℕ → Proposal → World → Step
+asks h context command p w =
+    at_replica h w
+    (unless (is_used w context) 5 w
+    (unless (nat_lt 512 (length command)) 14 w
+    (proposes h context p w)))
 
 -- ---- sessions
 
@@ -144,74 +249,77 @@ is_used w context = list_any (bytes_eq context) w.contexts
 abbrev pub client_at : World → List ℕ → Option ClientSession
 client_at w name = lookup (is_at (text_order name)) w.clients
 
-abbrev pub with_client : World → List ℕ → ClientSession → World
-with_client w name s = record w { clients = insert_entry text_order w.clients name s }
+abbrev pub with_client : List ℕ → ClientSession → World → World
+with_client name s w = record w { clients = insert_entry text_order w.clients name s }
 
 -- a session that begins with series 1
 abbrev pub new_client : ℕ → ClientSession
 new_client client = record { group = 1; client = client; series = 1; responded = 0; outstanding = None }
 
-abbrev pub register : World → List ℕ → List ℕ → ℕ → Step
-register w context name client =
-    if is_used w context then tells w (lines.Refused 5)
-    else (if is_some (client_at w name) then tells w (lines.Refused 6)
-    else proposes (with_client w name (new_client client)) context (proposals.Register client))
+unfoldable pub register : ℕ → List ℕ → List ℕ → ℕ → World → Step
+register h context name client w =
+    at_replica h w
+    (unless (is_used w context) 5 w
+    (unless (is_some (client_at w name)) 6 w
+    (proposes h context (proposals.Register client) (with_client name (new_client client) w))))
 
 -- the command of a session's series
 abbrev pub command_of_client : ClientSession → List ℕ → Proposal
 command_of_client s command = proposals.Session s.client s.series s.responded command
 
-abbrev pub call_by : Option ClientSession → World → List ℕ → List ℕ → List ℕ → Step
-call_by None w context name command = tells w (lines.Refused 6)
-call_by (Some s) w context name command =
-    if is_some s.outstanding then tells w (lines.Refused 7)
-    else (if nat_lt 512 (length command) then tells w (lines.Refused 14)
-    else proposes (with_client w name (record s { outstanding = Some command })) context (command_of_client s command))
+-- a request of a session, whose name may be unknown: then it is unknown too which group it is for
+abbrev pub of_client : Option ClientSession → ℕ → List ℕ → World → (ClientSession → Step) → Step
+of_client None h context w next = unless (not (is_declared w h)) 1 w (unless (is_used w context) 5 w (tells w (lines.Refused 6)))
+of_client (Some s) h context w next = at_replica h w (unless (is_used w context) 5 w (next s))
 
-abbrev pub call : World → List ℕ → List ℕ → List ℕ → Step
-call w context name command = if is_used w context then tells w (lines.Refused 5) else call_by (client_at w name) w context name command
+-- the command is outstanding from now on
+abbrev pub calls : ℕ → List ℕ → List ℕ → List ℕ → ClientSession → World → Step
+calls h context name command s w =
+    unless (is_some s.outstanding) 7 w
+    (unless (nat_lt 512 (length command)) 14 w
+    (proposes h context (command_of_client s command) (with_client name (record s { outstanding = Some command }) w)))
 
-abbrev pub repeat_by : ClientSession → Option (List ℕ) → World → List ℕ → Step
-repeat_by s None w context = tells w (lines.Refused 7)
-repeat_by s (Some command) w context = proposes w context (command_of_client s command)
+unfoldable pub call : ℕ → List ℕ → List ℕ → List ℕ → World → Step
+call h context name command w = of_client (client_at w name) h context w (λ s. calls h context name command s w)
 
-abbrev pub again_by : Option ClientSession → World → List ℕ → Step
-again_by None w context = tells w (lines.Refused 6)
-again_by (Some s) w context = repeat_by s s.outstanding w context
+abbrev pub repeats : Option (List ℕ) → ℕ → List ℕ → ClientSession → World → Step
+repeats None h context s w = tells w (lines.Refused 7)
+repeats (Some command) h context s w = proposes h context (command_of_client s command) w
 
-abbrev pub again : World → List ℕ → List ℕ → Step
-again w context name = if is_used w context then tells w (lines.Refused 5) else again_by (client_at w name) w context
+unfoldable pub again : ℕ → List ℕ → List ℕ → World → Step
+again h context name w = of_client (client_at w name) h context w (λ s. repeats s.outstanding h context s w)
 
 -- the series is responded and the next one begins; no script is so long that the greatest is passed
 abbrev pub next_series : ClientSession → ClientSession
 next_series s = record s { series = min (s.series + 1) most_series; responded = s.series; outstanding = None }
 
-abbrev pub completed_by : Option ClientSession → World → List ℕ → Step
-completed_by None w name = tells w (lines.Refused 6)
-completed_by (Some s) w name = if is_some s.outstanding then quiet (with_client w name (next_series s)) else tells w (lines.Refused 7)
+abbrev pub completed_by : Option ClientSession → List ℕ → World → Step
+completed_by None name w = tells w (lines.Refused 6)
+completed_by (Some s) name w = unless (not (is_some s.outstanding)) 7 w (quiet (with_client name (next_series s) w))
 
-abbrev pub completed : World → List ℕ → Step
-completed w name = completed_by (client_at w name) w name
+unfoldable pub completed : List ℕ → World → Step
+completed name w = completed_by (client_at w name) name w
 
-abbrev pub close_by : Option ClientSession → World → List ℕ → Step
-close_by None w context = tells w (lines.Refused 6)
-close_by (Some s) w context = if is_some s.outstanding then tells w (lines.Refused 7) else proposes w context (proposals.Close s.client)
+abbrev pub closes : ℕ → List ℕ → ClientSession → World → Step
+closes h context s w = unless (is_some s.outstanding) 7 w (proposes h context (proposals.Close s.client) w)
 
-abbrev pub close : World → List ℕ → List ℕ → Step
-close w context name = if is_used w context then tells w (lines.Refused 5) else close_by (client_at w name) w context
-
--- a command that is asked as this proposal
-abbrev pub asks : World → List ℕ → List ℕ → Proposal → Step
-asks w context command p =
-    if is_used w context then tells w (lines.Refused 5)
-    else (if nat_lt 512 (length command) then tells w (lines.Refused 14)
-    else proposes w context p)
+unfoldable pub close : ℕ → List ℕ → List ℕ → World → Step
+close h context name w = of_client (client_at w name) h context w (λ s. closes h context s w)
 
 -- ---- reads
 
 -- the line of a read that is answered now
 abbrev pub answer_line : Cell → Key → List ℕ → Line
 answer_line c key query = lines.Read key 1 c.applied (answer c.pairs query)
+
+-- the index from which on a read may be answered, where the core notes one
+abbrev pub confirmed_index : List Note → Option ℕ
+confirmed_index [] = None
+confirmed_index (notes.Leader host term ∷ more) = confirmed_index more
+confirmed_index (notes.Pending host id ∷ more) = confirmed_index more
+confirmed_index (notes.Idle ∷ more) = confirmed_index more
+confirmed_index (notes.Dropped key ∷ more) = confirmed_index more
+confirmed_index (notes.Confirmed host key index ∷ more) = Some index
 
 -- an open read waits from the time on when it is confirmed
 abbrev pub awaits : Option ℕ → Key → List Waiting → List Waiting
@@ -222,32 +330,34 @@ abbrev pub is_reached : Option ℕ → ℕ → Bool
 is_reached None applied = false
 is_reached (Some index) applied = nat_le index applied
 
+-- a read joins the open requests of its host, and waits where it is confirmed
+abbrev pub opened_read : ℕ → Key → List ℕ → Option ℕ → World → World
+opened_read h key query index w =
+    let n = joined key (wants.Read query) (node_at w h) in
+    with_node h (record n { requests = record n.requests { waiting = awaits index key n.requests.waiting } }) w
+
 -- a read that is confirmed at what is applied already is answered at once, and another one joins the open requests
-abbrev pub read_taken : World → List ℕ → List ℕ → Replica → Option ℕ → Step
-read_taken w context query replica index =
-    if is_reached index w.cell.applied
-    then record {
-      world = record (named w context) { replica = replica };
-      told = asked w context (lines.AskRead (next_key w) 1 query) (record { context = context; line = answer_line w.cell (next_key w) query } ∷ []);
-    }
-    else record {
-      world = record (named w context) { replica = replica; requests = record { wants = (joined (next_key w) (wants.Read query) w.requests).wants; waiting = awaits index (next_key w) w.requests.waiting } };
-      told = asked w context (lines.AskRead (next_key w) 1 query) [];
-    }
+abbrev pub read_taken : ℕ → Key → List ℕ → List ℕ → Option ℕ → World → Step
+read_taken h key context query index v =
+    if is_reached index (node_at v h).cell.applied
+    then record { world = v; told = asked context (lines.AskRead key 1 query) (record { context = context; line = answer_line (node_at v h).cell key query } ∷ []) }
+    else record { world = opened_read h key query index v; told = asked context (lines.AskRead key 1 query) [] }
 
-abbrev pub read_asked : World → List ℕ → List ℕ → Row → Step
-read_asked w context query row =
-    if is_dropped row
-    then record { world = record (named w context) { replica = row.replica }; told = asked w context (lines.AskRead (next_key w) 1 query) (dropped w context ∷ []) }
-    else read_taken w context query row.replica (confirmed_index row.notes)
+unfoldable pub read_asked : ℕ → Key → List ℕ → List ℕ → World → Step
+read_asked h key context query w =
+    let e = inputs.Ask h key in
+    let v = moved h e (named h context w) in
+    if is_dropped (noted e w)
+    then record { world = v; told = asked context (lines.AskRead key 1 query) (dropped context key ∷ []) }
+    else read_taken h key context query (confirmed_index (noted e w)) v
 
-abbrev pub reads : World → List ℕ → List ℕ → Step
-reads w context query = if is_used w context then tells w (lines.Refused 5) else read_asked w context query (on_local_read (next_key w) w.replica)
+unfoldable pub reads : ℕ → List ℕ → List ℕ → World → Step
+reads h context query w = at_replica h w (unless (is_used w context) 5 w (read_asked h (next_key w h) context query w))
 
 -- ---- applying
 
 -- a request that is open ends with a line
-abbrev pub ended : Option Want → List (List ℕ) → Key → Line → List Told
+abbrev pub ended : Option Want → List (List (List ℕ)) → Key → Line → List Told
 ended None contexts key line = []
 ended (Some want) contexts key line = shows contexts key line ∷ []
 
@@ -286,15 +396,15 @@ abbrev pub ending_of : Proposal → Cell → Option Ending
 ending_of p c = ending_by (verdict_by p c.sessions) p c.pairs
 
 -- the request of an entry ends, where it is open
-abbrev pub ended_with : Option Ending → List (List ℕ) → Key → Cell → List (Key × Want) → Applied
+abbrev pub ended_with : Option Ending → List (List (List ℕ)) → Key → Cell → List (Key × Want) → Applied
 ended_with None contexts key c wants = record { cell = c; wants = wants; told = [] }
 ended_with (Some ending) contexts key c wants = record { cell = c; wants = without key wants; told = ended (want_of key wants) contexts key (lines.Ended key 1 c.applied ending) }
 
 -- an entry of the log is given to the cell
-abbrev pub applied_by : List (List ℕ) → Proposal → Key → Cell → List (Key × Want) → Applied
+abbrev pub applied_by : List (List (List ℕ)) → Proposal → Key → Cell → List (Key × Want) → Applied
 applied_by contexts p key c wants = ended_with (ending_of p c) contexts key (given p c) wants
 
-unfoldable pub applied : List (List ℕ) → List Entry → Cell → List (Key × Want) → Applied
+unfoldable pub applied : List (List (List ℕ)) → List Entry → Cell → List (Key × Want) → Applied
 applied contexts [] c wants = record { cell = c; wants = wants; told = [] }
 applied contexts (e ∷ es) c wants =
     let first = applied_by contexts e.proposal e.key c wants in
@@ -320,59 +430,64 @@ pub record Answered : Type 0 where
   pub wants : List (Key × Want)
   pub told : List Told
 
-abbrev pub answer_told : List (List ℕ) → Cell → Key → Option Want → List Told
+abbrev pub answer_told : List (List (List ℕ)) → Cell → Key → Option Want → List Told
 answer_told contexts c key None = []
 answer_told contexts c key (Some wants.Proposal) = []
 answer_told contexts c key (Some (wants.Read query)) = shows contexts key (answer_line c key query) ∷ []
 
-unfoldable pub answered : List (List ℕ) → Cell → List Key → List (Key × Want) → Answered
+unfoldable pub answered : List (List (List ℕ)) → Cell → List Key → List (Key × Want) → Answered
 answered contexts c [] wants = record { wants = wants; told = [] }
 answered contexts c (key ∷ keys) wants =
     let more = answered contexts c keys (without key wants) in
     record { wants = more.wants; told = answer_told contexts c key (want_of key wants) ++ more.told }
 
--- the entries to apply now
-abbrev pub next_entries : World → ℕ → List Entry
-next_entries w most = take (min most (ripe w.replica - w.cell.applied)) (drop w.cell.applied w.replica.log)
+-- the entries of a replica's log behind what the cell was given, at most so many and none that isn't ripe
+abbrev pub next_entries : Replica → Cell → ℕ → List Entry
+next_entries r c most = take (min most (ripe r - c.applied)) (drop (c.applied - r.log.front) r.log.entries)
 
-abbrev pub answers_due : World → Applied → Answered
-answers_due w a = answered w.contexts a.cell (keys_with [] (due a.cell.applied w.requests.waiting)) a.wants
+abbrev pub answers_due : List (List (List ℕ)) → Node → Applied → Answered
+answers_due contexts n a = answered contexts a.cell (keys_with [] (due a.cell.applied n.requests.waiting)) a.wants
 
-abbrev pub applies : World → Applied → Step
-applies w a = record {
-  world = record w { cell = a.cell; requests = record { wants = (answers_due w a).wants; waiting = not_due a.cell.applied w.requests.waiting } };
-  told = a.told ++ (answers_due w a).told;
-}
+-- a host's node after some entries were given to its cell: the waiting reads whose front is reached are answered
+abbrev pub fed : List (List (List ℕ)) → Node → Applied → Node
+fed contexts n a = record { cell = a.cell; requests = record { wants = (answers_due contexts n a).wants; waiting = not_due a.cell.applied n.requests.waiting } }
 
--- an entry may be applied
-abbrev pub is_ripe : World → Bool
-is_ripe w = nat_lt w.cell.applied (ripe w.replica)
+abbrev pub applies : ℕ → Node → Applied → World → Step
+applies h n a w = record { world = with_node h (fed w.contexts n a) w; told = a.told ++ (answers_due w.contexts n a).told }
 
-abbrev pub apply : World → ℕ → Step
-apply w most = if is_ripe w then applies w (applied w.contexts (next_entries w most) w.cell w.requests.wants) else tells w lines.Idle
+-- an entry of a host may be applied
+abbrev pub is_ripe : World → ℕ → Bool
+is_ripe w h = nat_lt (node_at w h).cell.applied (ripe (replica_at w.group h))
 
-abbrev pub event_step : HostEvent → World → Step
-event_step (events.Timeout group) w = timeout w
-event_step (events.Save group) w = save w
-event_step (events.Apply group most) w = apply w most
+abbrev pub apply : ℕ → ℕ → World → Step
+apply h most w =
+    let n = node_at w h in
+    if is_ripe w h then applies h n (applied w.contexts (next_entries (replica_at w.group h) n.cell most) n.cell n.requests.wants) w else tells w lines.Idle
+
+unfoldable pub event_step : ℕ → HostEvent → World → Step
+event_step h (events.Timeout group) w = core h (inputs.Timeout h) w
+event_step h (events.Beat group) w = core h (inputs.Beat h) w
+event_step h (events.Ready group) w = core h (inputs.Ready h) w
+event_step h (events.Save group) w = save h w
+event_step h (events.Apply group most) w = apply h most w
 
 -- ---- limits
 
--- a run stops where leaders have appended so many entries
-abbrev pub most_entries : ℕ
-most_entries = 200000
+-- a run stops where so many envelopes were sent
+abbrev pub most_envelopes : ℕ
+most_envelopes = 400000
 
 -- a run stops where the lines that were read have so many bytes
 abbrev pub most_bytes : ℕ
 most_bytes = 67108864
 
--- the entries that leaders have appended: with one voter, which loses none, all that its log holds
-abbrev pub appended_entries : World → ℕ
-appended_entries w = last w.replica
-
 -- the first limit that is reached, where the lines that were read have so many bytes
 unfoldable pub reached : World → ℕ → Option Limit
-reached w size = if nat_le most_entries (appended_entries w) then Some limits.Entries else (if nat_le most_bytes size then Some limits.Script else None)
+reached w size =
+    if nat_le most_entries w.appended then Some limits.Entries
+    else (if nat_le most_envelopes (length w.group.wire) then Some limits.Envelopes
+    else (if nat_le most_bytes size then Some limits.Script
+    else None))
 
 -- ---- lines
 
@@ -409,23 +524,52 @@ abbrev pub where_busy : Bool → World → (World → Turn) → Turn
 where_busy false w next = whole (quiet w)
 where_busy true w next = next w
 
--- a batch is pending, or something changed
-abbrev pub is_unsaved : World → Bool
-is_unsaved w = is_pending w.replica.pending || is_changed w.replica
+-- a batch of a host's replica is pending, or something changed that a batch can hold
+abbrev pub is_unsaved : World → ℕ → Bool
+is_unsaved w h = is_some (pending_at w h) || (is_changed (replica_at w.group h) && not (is_stuck (replica_at w.group h)))
 
-abbrev pub save_tried : ℕ → World → Turn
-save_tried size w = where_busy (is_unsaved w) w (λ v. tried size v (save v))
+-- a save at a host that has something to save
+abbrev pub save_tried : ℕ → ℕ → World → Turn
+save_tried h size w = where_busy (is_unsaved w h) w (λ v. tried size v (save h v))
 
-abbrev pub apply_tried : ℕ → World → Turn
-apply_tried size w = where_busy (is_ripe w) w (λ v. tried size v (apply v 200000))
+-- a save at each of these hosts, in their order
+unfoldable pub save_each : List ℕ → ℕ → World → Turn
+save_each [] size w = whole (quiet w)
+save_each (h ∷ hs) size w = then_turn (save_tried h size w) (λ v. save_each hs size v)
 
--- a round saves where something is unsaved, and then applies where an entry is ripe
+-- the envelope behind the settled number arrives, and its number is settled
+abbrev pub deliver_next : World → Step
+deliver_next w = arrives (envelope_at w.group.wire (w.settled + 1)) (w.settled + 1) (record w { settled = w.settled + 1 })
+
+-- so many envelopes behind the settled number arrive, in order
+unfoldable pub deliver_each : ℕ → ℕ → World → Turn
+deliver_each zero size w = whole (quiet w)
+deliver_each (suc count) size w = then_turn (tried size w (deliver_next w)) (λ v. deliver_each count size v)
+
+-- an apply at a host where an entry is ripe
+abbrev pub apply_tried : ℕ → ℕ → World → Turn
+apply_tried h size w = where_busy (is_ripe w h) w (λ v. tried size v (apply h 200000 v))
+
+-- an apply at each of these hosts, in their order
+unfoldable pub apply_each : List ℕ → ℕ → World → Turn
+apply_each [] size w = whole (quiet w)
+apply_each (h ∷ hs) size w = then_turn (apply_tried h size w) (λ v. apply_each hs size v)
+
+-- how many envelopes there are behind the settled number
+abbrev pub unsettled : World → ℕ
+unsettled w = length w.group.wire - w.settled
+
+-- the envelopes behind the settled number arrive, up to the newest one of now, and then comes an apply at each host
+abbrev pub second_half : ℕ → World → Turn
+second_half size w = then_turn (deliver_each (unsettled w) size w) (λ v. apply_each v.group.voters size v)
+
+-- a round: saves at each host, then deliveries, then applies at each host; hosts in ascending order
 abbrev pub round : ℕ → World → Turn
-round size w = then_turn (save_tried size w) (apply_tried size)
+round size w = then_turn (save_each w.group.voters size w) (λ v. second_half size v)
 
 -- a round has something to do
 abbrev pub is_busy : World → Bool
-is_busy w = is_unsaved w || is_ripe w
+is_busy w = list_any (is_unsaved w) w.group.voters || nat_lt 0 (unsettled w) || list_any (is_ripe w) w.group.voters
 
 -- at most so many rounds, until one has nothing to do
 unfoldable pub settle : ℕ → ℕ → World → Turn
@@ -435,26 +579,43 @@ settle (suc rounds) size w = where_busy (is_busy w) w (λ v. then_turn (round si
 abbrev pub most_rounds : ℕ
 most_rounds = 64
 
--- a group is made with its limit of sessions: a new replica and a new cell
-abbrev pub grouped : Option ℕ → World → World
-grouped limit w = record w { replica = fresh; cell = new_cell (unwrap_or limit most_sessions) }
+unfoldable pub settles : ℕ → World → Turn
+settles size w = if has_group w then settle most_rounds size w else whole (tells w (lines.Refused 2))
+
+-- ---- hosts and groups
+
+unfoldable pub declare : ℕ → World → Step
+declare h w = unless (is_declared w h) 13 w (record { world = record w { declared = slice_set w.declared h true }; told = bare (lines.Started h 1) ∷ [] })
+
+-- the group is made of these voters, with its limit of sessions: new replicas and new cells
+unfoldable pub grouped : List ℕ → ℕ → World → World
+grouped roster limit w = record w { group = fresh_group 1 roster; limit = limit; nodes = replicate 10 (new_node limit) }
+
+unfoldable pub group : List ℕ → Option ℕ → World → Step
+group roster limit w =
+    unless (not (list_all (is_declared w) roster)) 1 w
+    (unless (has_group w) 13 w
+    (quiet (grouped roster (unwrap_or limit most_sessions) w)))
 
 -- a line, where the lines that were read have so many bytes with it
 unfoldable pub turn : ScriptLine → ℕ → World → Turn
 turn script.Skipped size w = whole (quiet w)
 turn script.End size w = whole (quiet w)
-turn (script.Host host) size w = whole (tells w (lines.Started host 1))
-turn (script.Group group kind roster limit) size w = whole (quiet (grouped limit w))
-turn (script.Event host event) size w = whole (event_step event w)
-turn (script.Ask host group context command) size w = whole (asks w context command (proposals.Plain command))
-turn (script.Read host group context query) size w = whole (reads w context query)
-turn (script.Register host group context session client) size w = whole (register w context session client)
-turn (script.Call host context session command) size w = whole (call w context session command)
-turn (script.Again host context session) size w = whole (again w context session)
-turn (script.Completed session) size w = whole (completed w session)
-turn (script.Close host context session) size w = whole (close w context session)
-turn (script.Raw host group context client series responded command) size w = whole (asks w context command (proposals.Session client series responded command))
-turn (script.Settle group) size w = settle most_rounds size w
+turn (script.Host host) size w = whole (declare host w)
+turn (script.Group number kind roster limit) size w = whole (group roster limit w)
+turn (script.Event host event) size w = whole (at_replica host w (event_step host event w))
+turn (script.Deliver number envelope) size w = whole (deliver envelope w)
+turn (script.Ask host number context command) size w = whole (asks host context command (proposals.Plain command) w)
+turn (script.Read host number context query) size w = whole (reads host context query w)
+turn (script.Register host number context session client) size w = whole (register host context session client w)
+turn (script.Call host context session command) size w = whole (call host context session command w)
+turn (script.Again host context session) size w = whole (again host context session w)
+turn (script.Completed session) size w = whole (completed session w)
+turn (script.Close host context session) size w = whole (close host context session w)
+turn (script.Raw host number context client series responded command) size w = whole (asks host context command (proposals.Session client series responded command) w)
+turn (script.Settle number) size w = settles size w
+turn (script.Lose number) size w = whole (lose w)
+turn (script.Wire number envelope) size w = whole (show envelope w)
 
 -- ---- the run
 
@@ -500,21 +661,17 @@ run setup w n size (line ∷ next ∷ more) =
     (λ said. after_turn (turn said (size + (length line + 1)) v) (λ u. run (setup_after said setup) u (n + 1) (size + (length line + 1)) (next ∷ more))) v n)
 
 abbrev pub outcome_of : List ℕ → Outcome
-outcome_of text = run setups.Nothing start 0 0 (parts_of text)
+outcome_of text = run setups.Single start 0 0 (parts_of text)
 
 abbrev pub text_of : List Told → List ℕ
 text_of told = flat_map (λ t. print_line t.context t.line) told
 
--- the decided list: the entries up to the commit index
-abbrev pub decided_entries : World → List Entry
-decided_entries w = take w.replica.commit w.replica.log
-
 abbrev pub entry_told : World → Entry → Told
 entry_told w e = shows w.contexts e.key (lines.Entry 1 e)
 
--- the last lines: at the end of a script the decided list
+-- the last lines: at the end of a script the group's decided list
 abbrev pub ending : Stop → World → List Told
-ending Ended w = map (entry_told w) (decided_entries w) ++ bare lines.End ∷ []
+ending Ended w = map (entry_told w) w.group.decided ++ bare lines.End ∷ []
 ending (Bad line) w = bare (lines.BadLine line) ∷ []
 ending (Full limit) w = bare (lines.Reached limit) ∷ []
 ending (Spent line) w = bare (lines.BadLine line) ∷ []

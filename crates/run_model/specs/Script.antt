@@ -1,10 +1,11 @@
 -- The lines of a script, and what each is as bytes. Source: this project's own.
-use Rattle.std.specs.Prelude.{ℕ, ◌-◌, ◌^◌, ◌∷◌, [], List, ◌==◌, ◌&&◌, ◌||◌, Bool, true, false, Option, Some, None, codes, bytes_eq, nat_lt, length, if◌then◌else◌}
+use Rattle.std.specs.Prelude.{ℕ, ◌+◌, ◌-◌, ◌^◌, ◌∷◌, ◌++◌, [], List, ◌==◌, ◌&&◌, ◌||◌, Bool, true, false, Option, Some, None, codes, bytes_eq, nat_lt, nat_le, length, if◌then◌else◌}
 use Rattle.std.specs.List.{slice_split}
 use Rattle.std.specs.Option.{is_some}
 use Rattle.host_ids.specs.declared.kind.Kind.TheVariants as kinds
 use Rattle.run_model.specs.declared.script.ScriptLine.{ScriptLine}
 use Rattle.run_model.specs.declared.script.ScriptLine.TheVariants as lines
+use Rattle.run_model.specs.declared.script.HostEvent.{HostEvent}
 use Rattle.run_model.specs.declared.script.HostEvent.TheVariants as events
 use Rattle.run_model.specs.declared.script.Setup.{Setup}
 use Rattle.run_model.specs.declared.script.Setup.TheVariants as setups
@@ -15,9 +16,9 @@ use Rattle.object_model.specs.Command.{command_of, query_of, most_number}
 abbrev pub says : List (List ℕ) → ℕ → List ℕ → Bool
 says words place text = bytes_eq (word words place) text
 
--- the one group of the one host is asked
-abbrev pub is_ours : List (List ℕ) → Bool
-is_ours words = says words 1 (codes "1") && says words 2 (codes "1")
+-- the one group is named at a place
+abbrev pub is_group : List (List ℕ) → ℕ → Bool
+is_group words place = says words place (codes "1")
 
 -- what stands behind the first space
 abbrev pub behind_space : List ℕ → List ℕ
@@ -35,36 +36,72 @@ behind_seven line = behind_space (behind_space (behind_space (behind_four line))
 abbrev pub if_so : Bool → ScriptLine → Option ScriptLine
 if_so b line = if b then Some line else None
 
--- `host 1`
+-- a number of at least 1
+abbrev pub positive : Option ℕ → Option ℕ
+positive None = None
+positive (Some n) = if n == 0 then None else Some n
+
+-- what a number says, where there is one
+abbrev pub by_number : Option ℕ → (ℕ → Option ScriptLine) → Option ScriptLine
+by_number None said = None
+by_number (Some n) said = said n
+
+-- a host, 1 to 9, at a place of the words
+abbrev pub host_at : List (List ℕ) → ℕ → Option ℕ
+host_at words place = positive (number_of 9 (word words place))
+
+-- ---- hosts and groups
+
+-- `host H`
 abbrev pub host_line : List (List ℕ) → Option ScriptLine
-host_line words = if_so (begins words 2 (codes "host") && says words 1 (codes "1")) (lines.Host 1)
+host_line words = by_number (host_at words 1) (λ host. Some (lines.Host host))
 
-abbrev pub group_by : Option ℕ → Option ScriptLine
-group_by None = None
-group_by (Some limit) = if limit == 0 then None else Some (lines.Group 1 kinds.Regular (1 ∷ []) (Some limit))
+-- the digit of a host behind the last one
+abbrev pub is_later : ℕ → ℕ → Bool
+is_later low b = nat_lt (low + 48) b && nat_le b 57
 
--- `group 1 regular 1`, or `group 1 regular 1 LIMIT`
+-- hosts with commas between, ascending: behind a host comes a comma, else a host behind the last one
+abbrev pub roster_on : Bool → ℕ → List ℕ → List ℕ → Option (List ℕ)
+roster_on after low found [] = if after then Some found else None
+roster_on after low found (b ∷ bs) =
+    if after then (if b == 44 then roster_on false low found bs else None)
+    else (if is_later low b then roster_on true (b - 48) (found ++ (b - 48) ∷ []) bs else None)
+
+-- the voters of a group, 1 to 7
+abbrev pub few_of : Option (List ℕ) → Option (List ℕ)
+few_of None = None
+few_of (Some hosts) = if nat_le (length hosts) 7 then Some hosts else None
+
+abbrev pub roster_of : List ℕ → Option (List ℕ)
+roster_of text = few_of (roster_on false 0 [] text)
+
+abbrev pub group_by : Option (List ℕ) → Option ℕ → Option ScriptLine
+group_by None limit = None
+group_by (Some roster) limit = Some (lines.Group 1 kinds.Regular roster limit)
+
+-- `group 1 regular R`, or `group 1 regular R LIMIT`
 abbrev pub group_line : List (List ℕ) → Option ScriptLine
 group_line words =
-    if says words 0 (codes "group") && says words 1 (codes "1") && says words 2 (codes "regular") && says words 3 (codes "1") then
-    (if length words == 4 then Some (lines.Group 1 kinds.Regular (1 ∷ []) None)
-    else (if length words == 5 then group_by (number_of 4096 (word words 4))
+    if is_group words 1 && says words 2 (codes "regular") then
+    (if length words == 4 then group_by (roster_of (word words 3)) None
+    else (if length words == 5 then by_number (positive (number_of 4096 (word words 4))) (λ limit. group_by (roster_of (word words 3)) (Some limit))
     else None))
     else None
 
-abbrev pub apply_by : Option ℕ → Option ScriptLine
-apply_by None = None
-apply_by (Some most) = if most == 0 then None else Some (lines.Event 1 (events.Apply 1 most))
+-- ---- requests
 
--- `ask 1 1 CTX COMMAND`
-abbrev pub ask_line : List (List ℕ) → List ℕ → Option ScriptLine
-ask_line words text = if_so (is_name (word words 3) 16 && is_some (command_of text)) (lines.Ask 1 1 (word words 3) text)
+-- `ask H 1 CTX COMMAND`
+abbrev pub ask_line : ℕ → List (List ℕ) → List ℕ → Option ScriptLine
+ask_line host words text = if_so (is_name (word words 3) 16 && is_some (command_of text)) (lines.Ask host 1 (word words 3) text)
 
--- `read 1 1 CTX QUERY`
-abbrev pub read_request : List (List ℕ) → List ℕ → Option ScriptLine
-read_request words text = if_so (is_name (word words 3) 16 && is_some (query_of text)) (lines.Read 1 1 (word words 3) text)
+-- reads are lines while no group of more than one voter was named
+abbrev pub may_read : Setup → Bool
+may_read setups.Single = true
+may_read setups.Several = false
 
--- ---- sessions
+-- `read H 1 CTX QUERY`
+abbrev pub read_request : Setup → ℕ → List (List ℕ) → List ℕ → Option ScriptLine
+read_request setup host words text = if_so (may_read setup && is_name (word words 3) 16 && is_some (query_of text)) (lines.Read host 1 (word words 3) text)
 
 -- the greatest series and responded value
 abbrev pub most_series : ℕ
@@ -74,94 +111,129 @@ most_series = 2 ^ 64 - 3
 abbrev pub is_named : List (List ℕ) → ℕ → Bool
 is_named words place = is_name (word words place) 16
 
-abbrev pub register_by : List (List ℕ) → Option ℕ → Option ScriptLine
-register_by words None = None
-register_by words (Some client) = if client == 0 then None else Some (lines.Register 1 1 (word words 3) (word words 4) client)
-
--- `register 1 1 CTX S C`
-abbrev pub register_line : List (List ℕ) → Option ScriptLine
-register_line words = if is_named words 3 && is_named words 4 then register_by words (number_of most_number (word words 5)) else None
-
--- the numbers of a `raw` line: a client and a series of at least 1, and a responded value
-abbrev pub raw_by : List (List ℕ) → List ℕ → Option ℕ → Option ℕ → Option ℕ → Option ScriptLine
-raw_by words text None series responded = None
-raw_by words text (Some client) None responded = None
-raw_by words text (Some client) (Some series) None = None
-raw_by words text (Some client) (Some series) (Some responded) = if (client == 0) || (series == 0) then None else Some (lines.Raw 1 1 (word words 3) client series responded text)
-
--- `raw 1 1 CTX C SERIES RESPONDED COMMAND`
-abbrev pub raw_line : List (List ℕ) → List ℕ → Option ScriptLine
-raw_line words text =
-    if is_named words 3 && is_some (command_of text)
-    then raw_by words text (number_of most_number (word words 4)) (number_of most_series (word words 5)) (number_of most_series (word words 6))
+-- `register H 1 CTX S C`
+abbrev pub register_line : ℕ → List (List ℕ) → Option ScriptLine
+register_line host words =
+    if is_named words 3 && is_named words 4
+    then by_number (positive (number_of most_number (word words 5))) (λ client. Some (lines.Register host 1 (word words 3) (word words 4) client))
     else None
 
--- `call 1 CTX S COMMAND`
-abbrev pub call_line : List (List ℕ) → List ℕ → Option ScriptLine
-call_line words text = if_so (is_named words 2 && is_named words 3 && is_some (command_of text)) (lines.Call 1 (word words 2) (word words 3) text)
+-- the numbers of a `raw` line: a client and a series of at least 1, and a responded value
+abbrev pub raw_by : ℕ → List (List ℕ) → List ℕ → Option ℕ → Option ℕ → Option ℕ → Option ScriptLine
+raw_by host words text None series responded = None
+raw_by host words text (Some client) None responded = None
+raw_by host words text (Some client) (Some series) None = None
+raw_by host words text (Some client) (Some series) (Some responded) = if (client == 0) || (series == 0) then None else Some (lines.Raw host 1 (word words 3) client series responded text)
 
--- `again 1 CTX S`
-abbrev pub again_line : List (List ℕ) → Option ScriptLine
-again_line words = if_so (is_named words 2 && is_named words 3) (lines.Again 1 (word words 2) (word words 3))
+-- `raw H 1 CTX C SERIES RESPONDED COMMAND`
+abbrev pub raw_line : ℕ → List (List ℕ) → List ℕ → Option ScriptLine
+raw_line host words text =
+    if is_named words 3 && is_some (command_of text)
+    then raw_by host words text (number_of most_number (word words 4)) (number_of most_series (word words 5)) (number_of most_series (word words 6))
+    else None
 
--- `close 1 CTX S`
-abbrev pub close_line : List (List ℕ) → Option ScriptLine
-close_line words = if_so (is_named words 2 && is_named words 3) (lines.Close 1 (word words 2) (word words 3))
+-- `call H CTX S COMMAND`
+abbrev pub call_line : ℕ → List (List ℕ) → List ℕ → Option ScriptLine
+call_line host words text = if_so (is_named words 2 && is_named words 3 && is_some (command_of text)) (lines.Call host (word words 2) (word words 3) text)
+
+-- `again H CTX S`
+abbrev pub again_line : ℕ → List (List ℕ) → Option ScriptLine
+again_line host words = if_so (is_named words 2 && is_named words 3) (lines.Again host (word words 2) (word words 3))
+
+-- `close H CTX S`
+abbrev pub close_line : ℕ → List (List ℕ) → Option ScriptLine
+close_line host words = if_so (is_named words 2 && is_named words 3) (lines.Close host (word words 2) (word words 3))
 
 -- `completed S`
 abbrev pub completed_line : List (List ℕ) → Option ScriptLine
 completed_line words = if_so (is_named words 1) (lines.Completed (word words 1))
 
--- ---- lines behind the group
+-- ---- events
 
--- `timeout 1 1`, `save 1 1`, `apply 1 1 N`
-abbrev pub event_line : List (List ℕ) → Option ScriptLine
-event_line words =
-    if begins words 3 (codes "timeout") then Some (lines.Event 1 (events.Timeout 1))
-    else (if begins words 3 (codes "save") then Some (lines.Event 1 (events.Save 1))
-    else (if begins words 4 (codes "apply") then apply_by (number_of 200000 (word words 3))
+-- the event that a line of three words names
+abbrev pub event_of : List (List ℕ) → Option HostEvent
+event_of words =
+    if says words 0 (codes "timeout") then Some (events.Timeout 1)
+    else (if says words 0 (codes "beat") then Some (events.Beat 1)
+    else (if says words 0 (codes "ready") then Some (events.Ready 1)
+    else (if says words 0 (codes "save") then Some (events.Save 1)
+    else None)))
+
+abbrev pub event_by : ℕ → Option HostEvent → Option ScriptLine
+event_by host None = None
+event_by host (Some event) = Some (lines.Event host event)
+
+-- `apply H 1 N`
+abbrev pub apply_line : ℕ → List (List ℕ) → Option ScriptLine
+apply_line host words = by_number (positive (number_of 200000 (word words 3))) (λ most. Some (lines.Event host (events.Apply 1 most)))
+
+-- `timeout H 1`, `beat H 1`, `ready H 1`, `save H 1`, `apply H 1 N`
+abbrev pub event_line : ℕ → List (List ℕ) → Option ScriptLine
+event_line host words =
+    if length words == 3 then event_by host (event_of words)
+    else (if begins words 4 (codes "apply") then apply_line host words
+    else None)
+
+-- `deliver 1 K`
+abbrev pub deliver_line : List (List ℕ) → Option ScriptLine
+deliver_line words = by_number (number_of most_number (word words 2)) (λ number. Some (lines.Deliver 1 number))
+
+-- `wire 1 K`
+abbrev pub wire_line : List (List ℕ) → Option ScriptLine
+wire_line words = by_number (number_of most_number (word words 2)) (λ number. Some (lines.Wire 1 number))
+
+-- ---- lines by their verbs
+
+-- lines that name a host and the group
+abbrev pub replica_line : Setup → ℕ → List (List ℕ) → List ℕ → Option ScriptLine
+replica_line setup host words line =
+    if says words 0 (codes "ask") then ask_line host words (behind_four line)
+    else (if says words 0 (codes "read") then read_request setup host words (behind_four line)
+    else (if begins words 6 (codes "register") then register_line host words
+    else (if says words 0 (codes "raw") then raw_line host words (behind_seven line)
+    else event_line host words)))
+
+-- `call`, `again` and `close`, which name a host and a session
+abbrev pub session_line : ℕ → List (List ℕ) → List ℕ → Option ScriptLine
+session_line host words line =
+    if says words 0 (codes "call") then call_line host words (behind_four line)
+    else (if begins words 4 (codes "again") then again_line host words
+    else (if begins words 4 (codes "close") then close_line host words
     else None))
-
--- `ask`, `read`, `register` and `raw`, which name the host and the group
-abbrev pub request_line : List (List ℕ) → List ℕ → Option ScriptLine
-request_line words line =
-    if says words 0 (codes "ask") then ask_line words (behind_four line)
-    else (if says words 0 (codes "read") then read_request words (behind_four line)
-    else (if begins words 6 (codes "register") then register_line words
-    else (if says words 0 (codes "raw") then raw_line words (behind_seven line)
-    else event_line words)))
-
--- `call`, `again` and `close`, which name the host and a session
-abbrev pub session_line : List (List ℕ) → List ℕ → Option ScriptLine
-session_line words line =
-    if says words 0 (codes "call") then call_line words (behind_four line)
-    else (if begins words 4 (codes "again") then again_line words
-    else (if begins words 4 (codes "close") then close_line words
-    else None))
-
--- `settle 1`
-abbrev pub settle_line : List (List ℕ) → Option ScriptLine
-settle_line words = if_so (says words 1 (codes "1")) (lines.Settle 1)
 
 -- the verbs that name a session come first, since what stands behind them may look like a group
 abbrev pub is_session_verb : List (List ℕ) → Bool
 is_session_verb words = says words 0 (codes "call") || says words 0 (codes "again") || says words 0 (codes "close")
 
-abbrev pub later_line : List (List ℕ) → List ℕ → Option ScriptLine
-later_line words line =
-    if is_session_verb words then (if says words 1 (codes "1") then session_line words line else None)
-    else (if begins words 2 (codes "completed") then completed_line words
-    else (if begins words 2 (codes "settle") then settle_line words
-    else (if is_ours words then request_line words line
+-- lines that name a host first
+abbrev pub line_at : Setup → ℕ → List (List ℕ) → List ℕ → Option ScriptLine
+line_at setup host words line =
+    if is_session_verb words then session_line host words line
+    else (if is_group words 2 then replica_line setup host words line
+    else None)
+
+-- lines that name the group alone
+abbrev pub wire_lines : List (List ℕ) → Option ScriptLine
+wire_lines words =
+    if begins words 2 (codes "settle") then Some (lines.Settle 1)
+    else (if begins words 2 (codes "lose") then Some (lines.Lose 1)
+    else (if begins words 3 (codes "deliver") then deliver_line words
+    else (if begins words 3 (codes "wire") then wire_line words
     else None)))
 
--- the host is declared first, then the group, then come the others
-abbrev pub said_in : Setup → List (List ℕ) → List ℕ → Option ScriptLine
-said_in setups.Nothing words line = host_line words
-said_in setups.Host words line = group_line words
-said_in setups.Group words line = later_line words line
+-- verbs behind which no host and group stand
+abbrev pub is_wire_verb : List (List ℕ) → Bool
+is_wire_verb words = says words 0 (codes "settle") || says words 0 (codes "lose") || says words 0 (codes "deliver") || says words 0 (codes "wire")
 
--- `end` may stand anywhere
+-- a line by its words
+abbrev pub said_in : Setup → List (List ℕ) → List ℕ → Option ScriptLine
+said_in setup words line =
+    if begins words 2 (codes "host") then host_line words
+    else (if says words 0 (codes "group") then group_line words
+    else (if begins words 2 (codes "completed") then completed_line words
+    else (if is_wire_verb words then (if is_group words 1 then wire_lines words else None)
+    else by_number (host_at words 1) (λ host. line_at setup host words line))))
+
 abbrev pub line_in : Setup → List (List ℕ) → List ℕ → Option ScriptLine
 line_in setup words line = if begins words 1 (codes "end") then Some lines.End else said_in setup words line
 
@@ -170,19 +242,23 @@ abbrev pub is_skipped : List ℕ → Bool
 is_skipped [] = true
 is_skipped (c ∷ cs) = c == 35
 
--- what a line says where so much is declared, if it is one: a line has at most 4,096 bytes
+-- what a line says behind so much, if it is one: a line has at most 4,096 bytes
 unfoldable pub read_line : Setup → List ℕ → Option ScriptLine
 read_line setup line =
     if nat_lt 4096 (length line) then None
     else (if is_skipped line then Some lines.Skipped else line_in setup (words_of line) line)
 
--- what is declared behind a line
+abbrev pub named_group : List ℕ → Setup → Setup
+named_group roster setup = if nat_lt 1 (length roster) then setups.Several else setup
+
+-- which groups were named behind a line, also one that is refused
 abbrev pub setup_after : ScriptLine → Setup → Setup
 setup_after lines.Skipped setup = setup
 setup_after lines.End setup = setup
-setup_after (lines.Host host) setup = setups.Host
-setup_after (lines.Group group kind roster limit) setup = setups.Group
+setup_after (lines.Host host) setup = setup
+setup_after (lines.Group group kind roster limit) setup = named_group roster setup
 setup_after (lines.Event host event) setup = setup
+setup_after (lines.Deliver group number) setup = setup
 setup_after (lines.Ask host group context command) setup = setup
 setup_after (lines.Read host group context query) setup = setup
 setup_after (lines.Register host group context session client) setup = setup
@@ -192,6 +268,8 @@ setup_after (lines.Completed session) setup = setup
 setup_after (lines.Close host context session) setup = setup
 setup_after (lines.Raw host group context client series responded command) setup = setup
 setup_after (lines.Settle group) setup = setup
+setup_after (lines.Lose group) setup = setup
+setup_after (lines.Wire group number) setup = setup
 
 abbrev pub is_end : ScriptLine → Bool
 is_end lines.Skipped = false
@@ -199,6 +277,7 @@ is_end lines.End = true
 is_end (lines.Host host) = false
 is_end (lines.Group group kind roster limit) = false
 is_end (lines.Event host event) = false
+is_end (lines.Deliver group number) = false
 is_end (lines.Ask host group context command) = false
 is_end (lines.Read host group context query) = false
 is_end (lines.Register host group context session client) = false
@@ -208,6 +287,8 @@ is_end (lines.Completed session) = false
 is_end (lines.Close host context session) = false
 is_end (lines.Raw host group context client series responded command) = false
 is_end (lines.Settle group) = false
+is_end (lines.Lose group) = false
+is_end (lines.Wire group number) = false
 
 -- ---- scripts
 
@@ -227,4 +308,4 @@ are_lines setup (line ∷ next ∷ more) = said_well (read_line setup line) (λ 
 
 -- a script of the grammar, which comes to its `end`
 abbrev pub is_script : List ℕ → Bool
-is_script text = are_lines setups.Nothing (parts_of text)
+is_script text = are_lines setups.Single (parts_of text)

@@ -3,18 +3,18 @@
 #![tactic(auto)]
 
 mod client;
+mod kind;
 mod laws;
 mod limit;
 mod line;
-mod replica;
 mod script;
 mod told;
 
 pub use client::ClientSession;
-pub use laws::{settled_run, worked_run};
+pub use kind::EnvelopeKind;
+pub use laws::{alone_run, handing_on_run, settled_run, showing_run, worked_run};
 pub use limit::Limit;
 pub use line::Line;
-pub use replica::{Note, Replica, Role, Taken};
 pub use script::{HostEvent, ScriptLine, Setup};
 pub use told::{Stop, Told, Tolds, Waiting, Want};
 

@@ -1,3 +1,4 @@
+use crate::kind::EnvelopeKind;
 use crate::limit::Limit;
 use host_ids::{Entry, Key, Proposal, Text};
 use object_model::Ending;
@@ -77,6 +78,21 @@ pub enum Line {
         key: Key,
         /// The group.
         group: u8,
+    },
+    /// An envelope of a group's wire is shown.
+    Wire {
+        /// The group.
+        group: u8,
+        /// Its number, from 1 in the order of sending.
+        number: u64,
+        /// The host that sent it.
+        from: u8,
+        /// The host that it is for.
+        to: u8,
+        /// What it says.
+        kind: EnvelopeKind,
+        /// Its term, 0 for a proposal that is handed on, a read and its answer.
+        term: u64,
     },
     /// An entry of a group's decided list.
     Entry {

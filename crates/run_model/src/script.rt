@@ -8,7 +8,17 @@ pub enum HostEvent {
         /// The replica's group.
         group: u8,
     },
-    /// Takes a batch, and hands it back as saved.
+    /// A replica is to show that it leads.
+    Beat {
+        /// The replica's group.
+        group: u8,
+    },
+    /// Takes a batch, to be saved.
+    Ready {
+        /// The replica's group.
+        group: u8,
+    },
+    /// Takes a batch where none is pending, and hands the pending one back as saved.
     Save {
         /// The replica's group.
         group: u8,
@@ -22,16 +32,14 @@ pub enum HostEvent {
     },
 }
 
-/// What a script has declared so far: which lines may stand next hangs on it. Source: this
-/// project's own.
+/// Which groups a script has named so far: a read is a line only while none of them has more than one
+/// voter. Source: this project's own.
 #[derive(Clone, Copy, Debug, PartialEq, Eq)]
 pub enum Setup {
-    /// Nothing: the host is declared next.
-    Nothing,
-    /// The host: the group is declared next.
-    Host,
-    /// The host and the group.
-    Group,
+    /// Groups of one voter, or none.
+    Single,
+    /// A group of more than one voter.
+    Several,
 }
 
 /// A line of a script. Hosts are 1 to 9, groups 1 to 64. Source: this project's own.
@@ -52,7 +60,7 @@ pub enum ScriptLine {
         group: u8,
         /// The kind of its state machines.
         kind: Kind,
-        /// Its voters, one byte each.
+        /// Its voters, 1 to 7 hosts, ascending, one byte each.
         roster: Text,
         /// How many sessions may stand in it, where that is said.
         limit: Option<u32>,
@@ -63,6 +71,13 @@ pub enum ScriptLine {
         host: u8,
         /// The event.
         event: HostEvent,
+    },
+    /// An envelope of a group arrives, which may be an old one once more.
+    Deliver {
+        /// The group.
+        group: u8,
+        /// The envelope's number, from 1 in the order of sending.
+        number: u64,
     },
     /// Proposes a command outside every session.
     Ask {
@@ -154,5 +169,17 @@ pub enum ScriptLine {
     Settle {
         /// The group.
         group: u8,
+    },
+    /// The envelopes that were sent so far won't be delivered by a settle.
+    Lose {
+        /// The group.
+        group: u8,
+    },
+    /// Shows an envelope.
+    Wire {
+        /// The group.
+        group: u8,
+        /// The envelope's number, from 1 in the order of sending.
+        number: u64,
     },
 }

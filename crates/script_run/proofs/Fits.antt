@@ -1,5 +1,5 @@
 -- The numbers of proposals and sessions stay in their ranges.
-use Rattle.std.proofs.Common.{◌≡◌, ℕ, zero, suc, ◌≤◌, ◌<◌, List, [], ◌∷◌, Bool, true, false, Option, Some, None, Bor, cond, length, take, drop, get_or, refl, sym, arith, leb-true}
+use Rattle.std.proofs.Common.{◌≡◌, ℕ, zero, suc, ◌≤◌, ◌<◌, List, [], ◌∷◌, Bool, true, false, Option, Some, None, Bor, cond, length, get_or, refl, sym, arith, leb-true}
 use Rattle.std.specs.Prelude.{◌&&◌, nat_le, IfSome}
 use Rattle.std.specs.Option.{option_copied}
 use Rattle.std.specs.declared.cmp.Ordering.{Ordering}
@@ -10,10 +10,12 @@ use Rattle.std.specs.BTreeMap.{insert_entry}
 use Rattle.std.specs.Map.{lookup}
 use Rattle.std.proofs.lemmas.Bool.{and_parts, and_from}
 use Rattle.host_ids.specs.declared.entry.Entry.{Entry}
+use Rattle.log_view.specs.Log.{Log, slice}
+use Rattle.std.proofs.lemmas.List.{length-take}
 use Rattle.object_model.specs.Object.{key_order as text_order}
 use Rattle.run_model.specs.declared.client.ClientSession.{ClientSession}
-use Rattle.run_model.specs.Script.{most_series}
-use Rattle.script_run.specs.Fit.{are_fit_numbers, is_fit, are_fit, is_fit_client, are_fit_clients}
+use Rattle.raft_model.specs.Fit.{are_fit_numbers, is_fit, are_fit, most_series}
+use Rattle.script_run.specs.Fit.{is_fit_client, are_fit_clients}
 
 -- ---- numbers
 
@@ -38,24 +40,14 @@ all_parts p x xs h = let q = and_parts (p x) (list_all p xs) h in (q.0, q.1)
 all_from : {A : Type 0} (p : A → Bool) (x : A) (xs : List A) → p x ≡ true → list_all p xs ≡ true → list_all p (x ∷ xs) ≡ true
 all_from p x xs h k = and_from (p x) (list_all p xs) h k
 
-all_drop : {A : Type 0} (p : A → Bool) (n : ℕ) (xs : List A) → list_all p xs ≡ true → list_all p (drop n xs) ≡ true
-all_drop p zero xs h = h
-all_drop p (suc n) [] h = refl
-all_drop p (suc n) (x ∷ xs) h = all_drop p n xs (all_parts p x xs h).1
-
-all_take : {A : Type 0} (p : A → Bool) (n : ℕ) (xs : List A) → list_all p xs ≡ true → list_all p (take n xs) ≡ true
-all_take p zero xs h = refl
-all_take p (suc n) [] h = refl
-all_take p (suc n) (x ∷ xs) h = let q = all_parts p x xs h in all_from p x (take n xs) q.0 (all_take p n xs q.1)
-
 all_at : {A : Type 0} (p : A → Bool) (xs : List A) (i : ℕ) (d : A) → i < length xs → list_all p xs ≡ true → p (get_or xs i d) ≡ true
 all_at p [] i d l h = absurd (omega (arith, l))
 all_at p (x ∷ xs) zero d l h = (all_parts p x xs h).0
 all_at p (x ∷ xs) (suc i) d l h = all_at p xs i d (omega (arith, l)) (all_parts p x xs h).1
 
--- a part of entries that are fit
-pub part_fit : (es : List Entry) (first count : ℕ) → are_fit es ≡ true → are_fit (take count (drop first es)) ≡ true
-part_fit es first count h = all_take (λ (e : Entry). is_fit e.proposal) count (drop first es) (all_drop (λ (e : Entry). is_fit e.proposal) first es h)
+-- a part of a log has at most so many entries
+pub length_slice : (log : Log) (first most : ℕ) → length (slice log first most) ≤ most
+length_slice log first most = rw length-take (omega arith)
 
 pub fit_at : (es : List Entry) (i : ℕ) (d : Entry) → i < length es → are_fit es ≡ true → is_fit (get_or es i d).proposal ≡ true
 fit_at es i d l h = all_at (λ (e : Entry). is_fit e.proposal) es i d l h

@@ -1,6 +1,7 @@
 -- A context more in an index.
-use Rattle.std.proofs.Common.{◌≡◌, ℕ, List, [], ◌∷◌, ◌++◌, Bool, true, false, refl, ap, sym, ◌∙◌}
-use Rattle.std.specs.Prelude.{◌||◌, bytes_eq}
+use Rattle.std.proofs.Common.{◌≡◌, ℕ, zero, suc, ◌-◌, ◌<◌, List, [], ◌∷◌, ◌++◌, Bool, true, false, length, take, refl, ap, sym, ◌∙◌, arith, length-append}
+use Rattle.std.proofs.Math.Seq.{take-append_seam}
+use Rattle.std.specs.Prelude.{◌||◌, bytes_eq, slice_set, slice_index_or}
 use Rattle.std.specs.List.{list_any}
 use Rattle.std.specs.declared.cmp.Ordering.{Ordering}
 use Rattle.std.specs.declared.cmp.Ordering.TheVariants.{Less, Equal, Greater}
@@ -27,14 +28,20 @@ twice_false : (a b : Bool) → (a || b) ≡ ((a || false) || (a || b))
 twice_false true b = refl
 twice_false false b = refl
 
-flip : (a b : Bool) → ((a || false) || b) ≡ (b || (a || false))
-flip true true = refl
-flip true false = refl
-flip false true = refl
-flip false false = refl
-
 same_text : (x y : List ℕ) → key_order x y ≡ Equal → x ≡ y
 same_text x y e = (bytes_eq-Decides x y).0 (sym (is_eq-slice_cmp x y) ∙ ap is_eq e)
+
+moved : (a b c d : Bool) → (a || ((b || (c || false)) || d)) ≡ (c || (a || (b || d)))
+moved true b true d = refl
+moved true b false d = refl
+moved false true true d = refl
+moved false true false d = refl
+moved false false true d = refl
+moved false false false d = refl
+
+last_two : (a b : Bool) → ((a || false) || b) ≡ (a || b)
+last_two true b = refl
+last_two false b = refl
 
 any_by : (q k x : List ℕ) (xs : List (List ℕ)) (o : Ordering) → key_order k x ≡ o → has_key q (insert_key key_order xs k) ≡ (has_key q (k ∷ []) || has_key q xs)
     → has_key q (match_ordering o (k ∷ x ∷ xs) (x ∷ xs) (x ∷ insert_key key_order xs k)) ≡ (has_key q (k ∷ []) || has_key q (x ∷ xs))
@@ -47,8 +54,26 @@ any_insert : (q k : List ℕ) (ks : List (List ℕ)) → has_key q (insert_key k
 any_insert q k [] = last_false (is_at (key_order q) k) false
 any_insert q k (x ∷ xs) = any_by q k x xs (key_order k x) refl (any_insert q k xs)
 
--- a text more in the list and in its index
-pub indexes_more : (ks ns : List (List ℕ)) (k : List ℕ) (list : List (List ℕ)) (text : List ℕ) → Indexes ks list → ns ≡ insert_key key_order ks k → k ≡ text → Indexes ns (list ++ text ∷ [])
-indexes_more ks ns k list text h e t = λ q.
+-- a text more in one of the lists
+set_by : (p : List ℕ → Bool) (a : Bool) (lists : List (List (List ℕ))) (h : ℕ) (text : List ℕ) → h < length lists
+    → (a || list_any (λ l. list_any p l) (slice_set lists h (slice_index_or lists h [] ++ text ∷ []))) ≡ (p text || (a || list_any (λ l. list_any p l) lists))
+set_by p a [] h text l = absurd (omega (arith, l))
+set_by p a (list ∷ lists) zero text l = rw list_any-append (moved a (list_any p list) (p text) (list_any (λ l. list_any p l) lists))
+set_by p a (list ∷ lists) (suc h) text l = rw (set_by p (list_any p list) lists h text (omega (arith, l))) (swap a (p text) _)
+
+-- a text more in one of the lists and in their index
+pub indexes_more : (ks ns : List (List ℕ)) (k : List ℕ) (lists : List (List (List ℕ))) (h : ℕ) (text : List ℕ) → h < length lists → Indexes ks lists → ns ≡ insert_key key_order ks k → k ≡ text
+    → Indexes ns (slice_set lists h (slice_index_or lists h [] ++ text ∷ []))
+indexes_more ks ns k lists h text l i e t = λ q.
     let one : has_key q (k ∷ []) ≡ (bytes_eq q text || false) = rw (is_eq-slice_cmp q k, t) refl in
-    rw (e, any_insert q k ks, h q, one, list_any-append) (flip (bytes_eq q text) (list_any (bytes_eq q) list))
+    rw (e, any_insert q k ks, i q, one) (last_two (bytes_eq q text) _ ∙ sym (set_by (bytes_eq q) false lists h text l))
+
+-- a list with a text more, and that taken away again
+pub set_back : (lists : List (List (List ℕ))) (h : ℕ) (text : List ℕ) → h < length lists → (let more = slice_set lists h (slice_index_or lists h [] ++ text ∷ []) in slice_set more h (take (length (slice_index_or more h []) - 1) (slice_index_or more h []))) ≡ lists
+set_back [] h text l = absurd (omega (arith, l))
+set_back (list ∷ lists) zero text l = let k : length (list ++ text ∷ []) - 1 ≡ length list = rw length-append (omega arith) in rw (k, take-append_seam) refl
+set_back (list ∷ lists) (suc h) text l = ap (λ (r : List (List (List ℕ))). list ∷ r) (set_back lists h text (omega (arith, l)))
+
+pub set_back_from : (lists : List (List (List ℕ))) (h : ℕ) (text : List ℕ) (m : List (List ℕ)) → h < length lists → m ≡ slice_index_or lists h [] ++ text ∷ []
+    → (let more = slice_set lists h m in slice_set more h (take (length (slice_index_or more h []) - 1) (slice_index_or more h []))) ≡ lists
+set_back_from lists h text m l e = rw e (set_back lists h text l)

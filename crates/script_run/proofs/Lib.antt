@@ -1,5 +1,5 @@
 pub mod Fits
-pub mod Rows
+pub mod Lanes
 pub mod Settles
 pub mod Insert
 pub mod Parts

@@ -13,7 +13,7 @@ use Rattle.run_model.specs.declared.told.Stop.{Stop}
 use Rattle.run_model.specs.declared.told.Stop.TheVariants.{Ended, Bad, Full, Spent}
 use Rattle.run_model.specs.World.{World}
 use Rattle.run_model.specs.Script.{read_line, parts_of, is_end, setup_after}
-use Rattle.run_model.specs.Run.{Outcome, run, text_of, told_before, stops, turn, most_bytes, most_entries, appended_entries, reached}
+use Rattle.run_model.specs.Run.{Outcome, run, text_of, told_before, stops, turn, most_bytes, most_entries, most_envelopes, reached}
 use Rattle.script_run.specs.Reach.{Reaches, Ahead, HasNoFeed}
 use Rattle.script_run.proofs.Parts.{has_parts, joined_parts, lone_part}
 
@@ -51,10 +51,11 @@ reaches_on done more rest total w s a r = record {
 
 -- ---- one turn of the run
 
-below_by : {A : Type 0} (entries bytes : Bool) → cond entries (Some limits.Entries) (cond bytes (Some limits.Script) None) ≡ None → (bytes ≡ false → A) → A
-below_by true bytes h f = absurd cc
-below_by false true h f = absurd cc
-below_by false false h f = f refl
+below_by : {A : Type 0} (entries envelopes bytes : Bool) → cond entries (Some limits.Entries) (cond envelopes (Some limits.Envelopes) (cond bytes (Some limits.Script) None)) ≡ None → (bytes ≡ false → A) → A
+below_by true envelopes bytes h f = absurd cc
+below_by false true bytes h f = absurd cc
+below_by false false true h f = absurd cc
+below_by false false false h f = f refl
 
 limit_by : (setup : Setup) (w : World) (n size : ℕ) (first : List ℕ) (others : List (List ℕ)) (limit : Limit) → reached w size ≡ Some limit → run setup w n size (first ∷ others) ≡ stops w (Full limit)
 unfolding run
@@ -128,7 +129,7 @@ full_reached done setup w n size text line rest said limit total a p h e t f =
 -- where no limit is reached, the lines have fewer bytes than may be
 pub reached_below : (w : World) (size : ℕ) → reached w size ≡ None → size < most_bytes
 unfolding reached
-reached_below w size h = below_by (nat_le most_entries (appended_entries w)) (nat_le most_bytes size) h (leb-false most_bytes size)
+reached_below w size h = below_by (nat_le most_entries w.appended) (nat_le most_envelopes (length w.group.wire)) (nat_le most_bytes size) h (leb-false most_bytes size)
 
 -- ---- what a source gives
 

@@ -1,8 +1,11 @@
--- The rounds of a settle, one by one.
-use Rattle.std.proofs.Common.{◌≡◌, ℕ, zero, suc, ◌-◌, ◌<◌, ◌≤◌, true, false, None, Some, refl, arith}
+-- The steps of a settle, one by one.
+use Rattle.std.proofs.Common.{◌≡◌, ℕ, zero, suc, ◌+◌, ◌-◌, ◌<◌, ◌≤◌, List, [], ◌∷◌, true, false, None, Some, length, get_or, drop, refl, arith, add-one}
+use Rattle.std.proofs.Math.Seq.{drop-cons}
 use Rattle.run_model.specs.declared.limit.Limit.{Limit}
 use Rattle.run_model.specs.World.{World}
-use Rattle.run_model.specs.Run.{settle, round, is_busy, whole, quiet, behind}
+use Rattle.run_model.specs.Run.{settle, round, is_busy, whole, quiet, behind, save_each, save_tried, deliver_each, deliver_next, apply_each, apply_tried, reached}
+
+-- ---- rounds
 
 -- no rounds are left
 pub settle_none : (n size : ℕ) (w : World) → n ≤ 0 → settle n size w ≡ whole (quiet w)
@@ -27,3 +30,58 @@ pub settle_full : (n size : ℕ) (w : World) (limit : Limit) → 0 < n → is_bu
 unfolding settle
 settle_full zero size w limit h e f = absurd (omega (arith, h))
 settle_full (suc n) size w limit h e f = rw (e, f) refl
+
+-- ---- saves at hosts, one after another
+
+pub saves_none : (hosts : List ℕ) (i size : ℕ) (w : World) → length hosts ≤ i → save_each (drop i hosts) size w ≡ whole (quiet w)
+unfolding save_each
+saves_none [] zero size w h = refl
+saves_none [] (suc i) size w h = refl
+saves_none (x ∷ xs) zero size w h = absurd (omega (arith, h))
+saves_none (x ∷ xs) (suc i) size w h = saves_none xs i size w (omega (arith, h))
+
+pub saves_next : (hosts : List ℕ) (i size : ℕ) (w : World) → i < length hosts → (save_tried (get_or hosts i 0) size w).full ≡ None
+    → save_each (drop i hosts) size w ≡ behind (save_tried (get_or hosts i 0) size w).told (save_each (drop (i + 1) hosts) size (save_tried (get_or hosts i 0) size w).world)
+unfolding save_each
+saves_next hosts i size w h f = rw (add-one, drop-cons hosts i 0, f) refl
+
+pub saves_full : (hosts : List ℕ) (i size : ℕ) (w : World) (limit : Limit) → i < length hosts → (save_tried (get_or hosts i 0) size w).full ≡ Some limit → save_each (drop i hosts) size w ≡ save_tried (get_or hosts i 0) size w
+unfolding save_each
+saves_full hosts i size w limit h f = rw (drop-cons hosts i 0, f) refl
+
+-- ---- applies at hosts, one after another
+
+pub applies_none : (hosts : List ℕ) (i size : ℕ) (w : World) → length hosts ≤ i → apply_each (drop i hosts) size w ≡ whole (quiet w)
+unfolding apply_each
+applies_none [] zero size w h = refl
+applies_none [] (suc i) size w h = refl
+applies_none (x ∷ xs) zero size w h = absurd (omega (arith, h))
+applies_none (x ∷ xs) (suc i) size w h = applies_none xs i size w (omega (arith, h))
+
+pub applies_next : (hosts : List ℕ) (i size : ℕ) (w : World) → i < length hosts → (apply_tried (get_or hosts i 0) size w).full ≡ None
+    → apply_each (drop i hosts) size w ≡ behind (apply_tried (get_or hosts i 0) size w).told (apply_each (drop (i + 1) hosts) size (apply_tried (get_or hosts i 0) size w).world)
+unfolding apply_each
+applies_next hosts i size w h f = rw (add-one, drop-cons hosts i 0, f) refl
+
+pub applies_full : (hosts : List ℕ) (i size : ℕ) (w : World) (limit : Limit) → i < length hosts → (apply_tried (get_or hosts i 0) size w).full ≡ Some limit → apply_each (drop i hosts) size w ≡ apply_tried (get_or hosts i 0) size w
+unfolding apply_each
+applies_full hosts i size w limit h f = rw (drop-cons hosts i 0, f) refl
+
+-- ---- deliveries, one after another
+
+pub deliveries_none : (n size : ℕ) (w : World) → n ≤ 0 → deliver_each n size w ≡ whole (quiet w)
+unfolding deliver_each
+deliveries_none zero size w h = refl
+deliveries_none (suc n) size w h = absurd (omega (arith, h))
+
+-- one is done, and one fewer is left
+pub deliveries_next : (n size : ℕ) (w : World) → 0 < n → reached w size ≡ None → deliver_each n size w ≡ behind (deliver_next w).told (deliver_each (n - 1) size (deliver_next w).world)
+unfolding deliver_each
+deliveries_next zero size w h e = absurd (omega (arith, h))
+deliveries_next (suc n) size w h e = let k : suc n - 1 ≡ n = omega arith in rw (e, k) refl
+
+-- a limit is reached before one
+pub deliveries_full : (n size : ℕ) (w : World) (limit : Limit) → 0 < n → reached w size ≡ Some limit → deliver_each n size w ≡ record { world = w; told = []; full = Some limit }
+unfolding deliver_each
+deliveries_full zero size w limit h e = absurd (omega (arith, h))
+deliveries_full (suc n) size w limit h e = rw e refl

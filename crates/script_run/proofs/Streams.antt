@@ -22,7 +22,7 @@ Consumes-none None = tt
 Consumes-none (Some m) = refl
 
 -- nothing was taken, told or held yet
-pub begins : (left old : Option (List ℕ)) (p : Place) (held : List ℕ) → p.world ≡ start → p.setup ≡ setups.Nothing → p.lines ≡ 0 → p.size ≡ 0 → held ≡ [] → Under left left old old p held [] []
+pub begins : (left old : Option (List ℕ)) (p : Place) (held : List ℕ) → p.world ≡ start → p.setup ≡ setups.Single → p.lines ≡ 0 → p.size ≡ 0 → held ≡ [] → Under left left old old p held [] []
 begins left old p held w u n z h = record {
   taken = Consumes-none left;
   written = Appends-none old;

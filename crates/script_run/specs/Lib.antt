@@ -1,6 +1,6 @@
 pub mod Fit
 pub mod Index
-pub mod Host
+pub mod Parts
 pub mod Cell
 pub mod World
 pub mod Reach

@@ -1,14 +1,24 @@
--- The host of the program as the world of the rules.
-use Rattle.std.specs.Prelude.{ℕ, List, [], ◌∷◌, nat_le, if◌then◌else◌}
+-- The world of the program as the world of the rules.
+use Rattle.std.specs.Prelude.{ℕ, List, [], ◌∷◌, Option, if◌then◌else◌}
+use Rattle.host_ids.specs.declared.entry.Key.{Key}
 use Rattle.run_model.specs.declared.told.Told.{Told}
-use Rattle.run_model.specs.World.{World}
-use Rattle.run_model.specs.Run.{answer_line, next_key}
-use Rattle.script_run.specs.declared.host.Host.{Host}
-use Rattle.script_run.specs.Cell.{cell_of}
+use Rattle.run_model.specs.World as rules
+use Rattle.run_model.specs.Run.{answer_line, is_reached}
+use Rattle.script_run.specs.declared.world.World.{World}
 
-abbrev pub world_of : Host → World
-world_of h = record { replica = h.replica; cell = cell_of h.cell; contexts = h.contexts; requests = h.requests; clients = h.clients }
+abbrev pub world_of : World → rules.World
+world_of w = record {
+  declared = w.declared;
+  group = w.lane;
+  limit = w.limit;
+  nodes = w.nodes.items;
+  contexts = w.contexts;
+  clients = w.clients;
+  settled = w.settled;
+  appended = w.appended;
+}
 
--- what a read that is confirmed at an index prints behind its `ask` line
-abbrev pub read_after : World → List ℕ → List ℕ → ℕ → List Told
-read_after w context query index = if nat_le index w.cell.applied then record { context = context; line = answer_line w.cell (next_key w) query } ∷ [] else []
+-- what a read that is confirmed at an index, or not yet, prints behind its `ask` line
+abbrev pub read_after : rules.World → ℕ → Key → List ℕ → List ℕ → Option ℕ → List Told
+read_after w h key context query index =
+    if is_reached index (rules.node_at w h).cell.applied then record { context = context; line = answer_line (rules.node_at w h).cell key query } ∷ [] else []

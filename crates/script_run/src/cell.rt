@@ -1,7 +1,7 @@
 ghost use Rattle.std.specs.Prelude.{◌≡◌, ◌++◌, ◌+◌, ◌<◌, ◌≤◌, ◌^◌, [], ◌∷◌, true, IfOk, OnOk, length};
 ghost use Rattle.run_model.specs.Run.{answer_line, answer_told, answered, applied, applied_by, bare, ended, ending_of, given, shows, want_of, without};
 ghost use Rattle.script_run.specs.Cell.{cell_of};
-ghost use Rattle.script_run.specs.Fit.{are_fit, are_fit_numbers, is_fit};
+ghost use Rattle.raft_model.specs.Fit.{are_fit, are_fit_numbers, is_fit};
 
 use crate::contexts::Contexts;
 use crate::requests::Requests;
@@ -48,7 +48,7 @@ pub fn tell(alloc: Global, line: Line, out: &mut Tolds) -> Result<(), NoMemory>
 pub fn tell_of(contexts: &Contexts, key: Key, line: Line, out: &mut Tolds) -> Result<(), NoMemory>
     ensures { OnOk result (out.new ≡ out.old ++ shows contexts.now key line ∷ []) }
 {
-    let context = contexts.at(key.serial)?;
+    let context = contexts.at(key)?;
     out.push(Told { context, line })
 }
 

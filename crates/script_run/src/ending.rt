@@ -3,8 +3,8 @@ ghost use Rattle.run_model.specs.Run.{bare, ending, entry_told, text_of};
 ghost use Rattle.script_run.specs.World.{world_of};
 
 use crate::buffer::Buffer;
-use crate::host::Host;
 use crate::print::print_line;
+use crate::world::World;
 use host_ids::{Entry, NoMemory, Text};
 use run_model::{Line, Stop};
 use std::alloc::Global;
@@ -18,10 +18,10 @@ pub fn print_bare(alloc: Global, line: Line, out: &mut Buffer) -> Result<(), NoM
 }
 
 /// Prints the line of an entry of the decided list.
-fn print_entry(host: &Host, entry: &Entry, out: &mut Buffer) -> Result<(), NoMemory>
-    ensures { OnOk result (out.new ≡ out.old ++ text_of (entry_told (world_of host.now) entry.now ∷ [])) }
+fn print_entry(world: &World, entry: &Entry, out: &mut Buffer) -> Result<(), NoMemory>
+    ensures { OnOk result (out.new ≡ out.old ++ text_of (entry_told (world_of world.now) entry.now ∷ [])) }
 {
-    let context = host.context_of(entry.key)?;
+    let context = world.contexts.at(entry.key)?;
     let line = Line::Entry {
         group: 1,
         entry: entry.copy()?,
@@ -30,11 +30,11 @@ fn print_entry(host: &Host, entry: &Entry, out: &mut Buffer) -> Result<(), NoMem
 }
 
 /// Prints the lines of entries of the decided list.
-fn print_entries(host: &Host, entries: &[Entry], out: &mut Buffer) -> Result<(), NoMemory>
-    ensures { OnOk result (out.new ≡ out.old ++ text_of (map (entry_told (world_of host.now)) entries.now)) }
+fn print_entries(world: &World, entries: &[Entry], out: &mut Buffer) -> Result<(), NoMemory>
+    ensures { OnOk result (out.new ≡ out.old ++ text_of (map (entry_told (world_of world.now)) entries.now)) }
 {
     for entry in entries {
-        print_entry(host, entry, out)?;
+        print_entry(world, entry, out)?;
     }
     Ok(())
 }
@@ -43,14 +43,15 @@ fn print_entries(host: &Host, entries: &[Entry], out: &mut Buffer) -> Result<(),
 pub fn print_ending(
     alloc: Global,
     stop: Stop,
-    host: &Host,
+    world: &World,
     out: &mut Buffer,
 ) -> Result<(), NoMemory>
-    ensures { OnOk result (out.new ≡ out.old ++ text_of (ending stop (world_of host.now))) }
+    ensures { OnOk result (out.new ≡ out.old ++ text_of (ending stop (world_of world.now))) }
 {
     match stop {
         Stop::Ended => {
-            print_entries(host, host.decided(), out)?;
+            let decided = world.decided()?;
+            print_entries(world, decided.items(), out)?;
             print_bare(alloc, Line::End, out)
         }
         Stop::Bad { line } | Stop::Spent { line } => print_bare(alloc, Line::BadLine { line }, out),

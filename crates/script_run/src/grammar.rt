@@ -1,19 +1,20 @@
-ghost use Rattle.std.specs.Prelude.{◌≡◌, ◌≤◌, ◌-◌, ◌^◌, true, IfOk, IfSome};
-ghost use Rattle.std.specs.Option.{option_copied};
-ghost use Rattle.object_model.specs.Words.{word, is_name, number_of};
-ghost use Rattle.script_run.specs.Fit.{is_fit_line};
 ghost use Rattle.object_model.specs.Command.{command_of, query_of};
-ghost use Rattle.run_model.specs.Script.{again_line, apply_by, ask_line, behind_four, behind_seven, behind_space, call_line, close_line, completed_line, event_line, group_by, group_line, host_line, is_named, is_ours, is_session_verb, is_skipped, later_line, line_in, raw_by, raw_line, read_line, read_request, register_by, register_line, request_line, said_in, session_line, settle_line, setup_after};
+ghost use Rattle.std.specs.Prelude.{◌≡◌, ◌≤◌, ◌-◌, ◌^◌, true, false, [], ℕ, IfOk, IfSome, Some};
+ghost use Rattle.std.specs.List.{list_all};
+ghost use Rattle.std.specs.Option.{option_map};
+ghost use Rattle.object_model.specs.Words.{word, is_name, number_of};
+ghost use Rattle.script_run.specs.Fit.{is_fit_limit, is_fit_line, is_fit_roster, is_host};
+ghost use Rattle.run_model.specs.Script.{again_line, by_number, ask_line, behind_four, behind_seven, behind_space, call_line, close_line, completed_line, deliver_line, event_by, event_line, event_of, group_by, group_line, host_at, host_line, is_group, is_later, is_named, is_session_verb, is_skipped, is_wire_verb, line_at, line_in, may_read, named_group, positive, raw_by, raw_line, read_line, read_request, register_line, replica_line, roster_of, roster_on, said_in, session_line, setup_after, wire_line, wire_lines};
 
 use host_ids::{Kind, NoMemory, Text};
 use object_model::{Words, command_of, is_name, number_of, query_of};
 use run_model::{HostEvent, ScriptLine, Setup};
 use std::alloc::Global;
 
-fn is_ours(words: &Words<'_>) -> bool
-    ensures { result ≡ is_ours words.now }
+fn is_group(words: &Words<'_>, place: usize) -> bool
+    ensures { result ≡ is_group words.now place }
 {
-    words.is(1, b"1") && words.is(2, b"1")
+    words.is(place, b"1")
 }
 
 /// The greatest series and responded value.
@@ -43,30 +44,124 @@ fn behind_seven(line: &[u8]) -> &[u8]
     behind_space(behind_space(behind_space(behind_four(line))))
 }
 
+/// A number of at least 1.
+fn positive(number: Option<u64>) -> Option<u64>
+    ensures number { result ≡ positive number }
+    ensures least { IfSome result (λ n. 1 ≤ n) }
+    ensures most { (most : ℕ) → IfSome number (λ n. n ≤ most) → IfSome result (λ n. n ≤ most) }
+{
+    match number {
+        None | Some(0) => None,
+        Some(number) => Some(number),
+    }
+}
+
+/// A host, 1 to 9, at a place of the words.
+fn host_at(words: &Words<'_>, place: usize) -> Option<u8>
+    ensures host { result ≡ host_at words.now place }
+    ensures fit { IfSome result (λ h. is_host h ≡ true) }
+{
+    match number_of(9, words.word(place)) {
+        None | Some(0) => None,
+        Some(host) => Some(host as u8),
+    }
+}
+
 fn host_line(words: &Words<'_>) -> Option<ScriptLine>
     ensures line { result ≡ host_line words.now }
     ensures fit { IfSome result (λ said. is_fit_line said ≡ true) }
 {
-    if !(words.begins(2, b"host") && words.is(1, b"1")) {
-        return None;
+    match host_at(words, 1) {
+        None => None,
+        Some(host) => Some(ScriptLine::Host { host }),
     }
-    Some(ScriptLine::Host { host: 1 })
 }
 
-fn group_by(alloc: Global, limit: Option<u64>) -> Result<Option<ScriptLine>, NoMemory>
-    requires { IfSome limit (λ n. n ≤ 4096) }
-    ensures line { IfOk result (λ line. line ≡ group_by limit) }
+/// Whether a byte is the digit of a host behind the last one.
+fn is_later(low: u8, byte: u8) -> bool
+    requires { low ≤ 9 }
+    ensures { result ≡ is_later low byte }
+{
+    low + 48 < byte && byte <= 57
+}
+
+/// Hosts with commas between, ascending.
+fn hosts_of(alloc: Global, text: &[u8]) -> Result<Option<Vec<u8>>, NoMemory>
+    ensures hosts { IfOk result (λ hosts. option_map (λ v. v.items) hosts ≡ roster_on false 0 [] text.now) }
+    ensures fit { IfOk result (λ hosts. IfSome hosts (λ some. list_all is_host some.items ≡ true)) }
+{
+    let mut found = Vec::new(alloc);
+    let mut low = 0u8;
+    let mut after = false;
+    for byte in text {
+        if after {
+            if *byte != b',' {
+                return Ok(None);
+            }
+            after = false;
+        } else {
+            if !is_later(low, *byte) {
+                return Ok(None);
+            }
+            low = *byte - 48;
+            found.push(low)?;
+            after = true;
+        }
+    }
+    if after { Ok(Some(found)) } else { Ok(None) }
+}
+
+/// The voters of a group, 1 to 7 hosts.
+fn roster_of(alloc: Global, text: &[u8]) -> Result<Option<Text>, NoMemory>
+    ensures roster { IfOk result (λ roster. roster ≡ roster_of text.now) }
+    ensures fit { IfOk result (λ roster. IfSome roster (λ hosts. is_fit_roster hosts ≡ true)) }
+{
+    match hosts_of(alloc, text)? {
+        None => Ok(None),
+        Some(hosts) => {
+            if hosts.len() > 7 {
+                return Ok(None);
+            }
+            Ok(Some(Text::from_vec(hosts)))
+        }
+    }
+}
+
+/// A group of these voters, if they are some.
+fn group_by(roster: Option<Text>, limit: Option<u32>) -> Option<ScriptLine>
+    requires roster { IfSome roster (λ hosts. is_fit_roster hosts ≡ true) }
+    requires limit { is_fit_limit limit ≡ true }
+    ensures line { result ≡ group_by roster limit }
+    ensures fit { IfSome result (λ said. is_fit_line said ≡ true) }
+{
+    match roster {
+        None => None,
+        Some(roster) => Some(ScriptLine::Group {
+            group: 1,
+            kind: Kind::Regular,
+            roster,
+            limit,
+        }),
+    }
+}
+
+/// `group 1 regular R LIMIT`, where that is its limit.
+fn limited_group(
+    alloc: Global,
+    words: &Words<'_>,
+    limit: Option<u64>,
+) -> Result<Option<ScriptLine>, NoMemory>
+    requires least { IfSome limit (λ n. 1 ≤ n) }
+    requires most { IfSome limit (λ n. n ≤ 4096) }
+    ensures line { IfOk result (λ line. line ≡ by_number limit (λ n. group_by (roster_of (word words.now 3)) (Some n))) }
     ensures fit { IfOk result (λ line. IfSome line (λ said. is_fit_line said ≡ true)) }
 {
     match limit {
         None => Ok(None),
-        Some(0) => Ok(None),
-        Some(limit) => Ok(Some(ScriptLine::Group {
-            group: 1,
-            kind: Kind::Regular,
-            roster: Text::new(alloc, &[1])?,
-            limit: Some(limit as u32),
-        })),
+        Some(limit) => {
+            let roster = roster_of(alloc, words.word(3))?;
+            Ok(group_by(roster, Some(limit as u32)))
+        }
     }
 }
 
@@ -74,44 +169,27 @@ fn group_line(alloc: Global, words: &Words<'_>) -> Result<Option<ScriptLine>, No
     ensures line { IfOk result (λ line. line ≡ group_line words.now) }
     ensures fit { IfOk result (λ line. IfSome line (λ said. is_fit_line said ≡ true)) }
 {
-    if !(words.is(0, b"group") && words.is(1, b"1")) {
-        return Ok(None);
-    }
-    if !(words.is(2, b"regular") && words.is(3, b"1")) {
+    if !(is_group(words, 1) && words.is(2, b"regular")) {
         return Ok(None);
     }
     match words.len() {
-        4 => Ok(Some(ScriptLine::Group {
-            group: 1,
-            kind: Kind::Regular,
-            roster: Text::new(alloc, &[1])?,
-            limit: None,
-        })),
-        5 => group_by(alloc, number_of(4096, words.word(4))),
+        4 => {
+            let roster = roster_of(alloc, words.word(3))?;
+            Ok(group_by(roster, None))
+        }
+        5 => limited_group(alloc, words, positive(number_of(4096, words.word(4)))),
         _ => Ok(None),
     }
 }
 
-fn apply_by(most: Option<u64>) -> Option<ScriptLine>
-    requires { IfSome most (λ n. n ≤ 200000) }
-    ensures line { result ≡ apply_by most }
-    ensures fit { IfSome result (λ said. is_fit_line said ≡ true) }
-{
-    match most {
-        None => None,
-        Some(0) => None,
-        Some(most) => Some(ScriptLine::Event {
-            host: 1,
-            event: HostEvent::Apply {
-                group: 1,
-                most: most as u32,
-            },
-        }),
-    }
-}
-
-fn ask_line(alloc: Global, words: &Words<'_>, text: &[u8]) -> Result<Option<ScriptLine>, NoMemory>
-    ensures line { IfOk result (λ line. line ≡ ask_line words.now text.now) }
+fn ask_line(
+    alloc: Global,
+    host: u8,
+    words: &Words<'_>,
+    text: &[u8],
+) -> Result<Option<ScriptLine>, NoMemory>
+    requires { is_host host ≡ true }
+    ensures line { IfOk result (λ line. line ≡ ask_line host words.now text.now) }
     ensures fit { IfOk result (λ line. IfSome line (λ said. is_fit_line said ≡ true)) }
 {
     if !is_name(words.word(3), 16) {
@@ -121,21 +199,33 @@ fn ask_line(alloc: Global, words: &Words<'_>, text: &[u8]) -> Result<Option<Scri
         return Ok(None);
     }
     Ok(Some(ScriptLine::Ask {
-        host: 1,
+        host,
         group: 1,
         context: Text::new(alloc, words.word(3))?,
         command: Text::new(alloc, text)?,
     }))
 }
 
+fn may_read(setup: Setup) -> bool
+    ensures { result ≡ may_read setup }
+{
+    matches!(setup, Setup::Single)
+}
+
 fn read_request(
     alloc: Global,
+    setup: Setup,
+    host: u8,
     words: &Words<'_>,
     text: &[u8],
 ) -> Result<Option<ScriptLine>, NoMemory>
-    ensures line { IfOk result (λ line. line ≡ read_request words.now text.now) }
+    requires { is_host host ≡ true }
+    ensures line { IfOk result (λ line. line ≡ read_request setup host words.now text.now) }
     ensures fit { IfOk result (λ line. IfSome line (λ said. is_fit_line said ≡ true)) }
 {
+    if !may_read(setup) {
+        return Ok(None);
+    }
     if !is_name(words.word(3), 16) {
         return Ok(None);
     }
@@ -143,7 +233,7 @@ fn read_request(
         return Ok(None);
     }
     Ok(Some(ScriptLine::Read {
-        host: 1,
+        host,
         group: 1,
         context: Text::new(alloc, words.word(3))?,
         query: Text::new(alloc, text)?,
@@ -158,17 +248,19 @@ fn is_named(words: &Words<'_>, place: usize) -> bool
 
 fn register_by(
     alloc: Global,
+    host: u8,
     words: &Words<'_>,
     client: Option<u64>,
 ) -> Result<Option<ScriptLine>, NoMemory>
-    ensures line { IfOk result (λ line. line ≡ register_by words.now client) }
+    requires host { is_host host ≡ true }
+    requires client { IfSome client (λ n. 1 ≤ n) }
+    ensures line { IfOk result (λ line. line ≡ by_number client (λ n. Some (ScriptLine.Register host 1 (word words.now 3) (word words.now 4) n))) }
     ensures fit { IfOk result (λ line. IfSome line (λ said. is_fit_line said ≡ true)) }
 {
     match client {
         None => Ok(None),
-        Some(0) => Ok(None),
         Some(client) => Ok(Some(ScriptLine::Register {
-            host: 1,
+            host,
             group: 1,
             context: Text::new(alloc, words.word(3))?,
             session: Text::new(alloc, words.word(4))?,
@@ -177,27 +269,35 @@ fn register_by(
     }
 }
 
-fn register_line(alloc: Global, words: &Words<'_>) -> Result<Option<ScriptLine>, NoMemory>
-    ensures line { IfOk result (λ line. line ≡ register_line words.now) }
+fn register_line(alloc: Global, host: u8, words: &Words<'_>) -> Result<Option<ScriptLine>, NoMemory>
+    requires { is_host host ≡ true }
+    ensures line { IfOk result (λ line. line ≡ register_line host words.now) }
     ensures fit { IfOk result (λ line. IfSome line (λ said. is_fit_line said ≡ true)) }
 {
     if !(is_named(words, 3) && is_named(words, 4)) {
         return Ok(None);
     }
-    register_by(alloc, words, number_of(u64::MAX, words.word(5)))
+    register_by(
+        alloc,
+        host,
+        words,
+        positive(number_of(u64::MAX, words.word(5))),
+    )
 }
 
 fn raw_by(
     alloc: Global,
+    host: u8,
     words: &Words<'_>,
     text: &[u8],
     client: Option<u64>,
     series: Option<u64>,
     responded: Option<u64>,
 ) -> Result<Option<ScriptLine>, NoMemory>
+    requires host { is_host host ≡ true }
     requires series_in { IfSome series (λ n. n ≤ 2 ^ 64 - 3) }
     requires responded_in { IfSome responded (λ n. n ≤ 2 ^ 64 - 3) }
-    ensures line { IfOk result (λ line. line ≡ raw_by words.now text.now client series responded) }
+    ensures line { IfOk result (λ line. line ≡ raw_by host words.now text.now client series responded) }
     ensures fit { IfOk result (λ line. IfSome line (λ said. is_fit_line said ≡ true)) }
 {
     let Some(client) = client else {
@@ -213,7 +313,7 @@ fn raw_by(
         return Ok(None);
     }
     Ok(Some(ScriptLine::Raw {
-        host: 1,
+        host,
         group: 1,
         context: Text::new(alloc, words.word(3))?,
         client,
@@ -223,8 +323,14 @@ fn raw_by(
     }))
 }
 
-fn raw_line(alloc: Global, words: &Words<'_>, text: &[u8]) -> Result<Option<ScriptLine>, NoMemory>
-    ensures line { IfOk result (λ line. line ≡ raw_line words.now text.now) }
+fn raw_line(
+    alloc: Global,
+    host: u8,
+    words: &Words<'_>,
+    text: &[u8],
+) -> Result<Option<ScriptLine>, NoMemory>
+    requires { is_host host ≡ true }
+    ensures line { IfOk result (λ line. line ≡ raw_line host words.now text.now) }
     ensures fit { IfOk result (λ line. IfSome line (λ said. is_fit_line said ≡ true)) }
 {
     if !is_named(words, 3) {
@@ -236,11 +342,17 @@ fn raw_line(alloc: Global, words: &Words<'_>, text: &[u8]) -> Result<Option<Scri
     let client = number_of(u64::MAX, words.word(4));
     let series = number_of(MOST_SERIES, words.word(5));
     let responded = number_of(MOST_SERIES, words.word(6));
-    raw_by(alloc, words, text, client, series, responded)
+    raw_by(alloc, host, words, text, client, series, responded)
 }
 
-fn call_line(alloc: Global, words: &Words<'_>, text: &[u8]) -> Result<Option<ScriptLine>, NoMemory>
-    ensures line { IfOk result (λ line. line ≡ call_line words.now text.now) }
+fn call_line(
+    alloc: Global,
+    host: u8,
+    words: &Words<'_>,
+    text: &[u8],
+) -> Result<Option<ScriptLine>, NoMemory>
+    requires { is_host host ≡ true }
+    ensures line { IfOk result (λ line. line ≡ call_line host words.now text.now) }
     ensures fit { IfOk result (λ line. IfSome line (λ said. is_fit_line said ≡ true)) }
 {
     if !(is_named(words, 2) && is_named(words, 3)) {
@@ -250,36 +362,38 @@ fn call_line(alloc: Global, words: &Words<'_>, text: &[u8]) -> Result<Option<Scr
         return Ok(None);
     }
     Ok(Some(ScriptLine::Call {
-        host: 1,
+        host,
         context: Text::new(alloc, words.word(2))?,
         session: Text::new(alloc, words.word(3))?,
         command: Text::new(alloc, text)?,
     }))
 }
 
-fn again_line(alloc: Global, words: &Words<'_>) -> Result<Option<ScriptLine>, NoMemory>
-    ensures line { IfOk result (λ line. line ≡ again_line words.now) }
+fn again_line(alloc: Global, host: u8, words: &Words<'_>) -> Result<Option<ScriptLine>, NoMemory>
+    requires { is_host host ≡ true }
+    ensures line { IfOk result (λ line. line ≡ again_line host words.now) }
     ensures fit { IfOk result (λ line. IfSome line (λ said. is_fit_line said ≡ true)) }
 {
     if !(is_named(words, 2) && is_named(words, 3)) {
         return Ok(None);
     }
     Ok(Some(ScriptLine::Again {
-        host: 1,
+        host,
         context: Text::new(alloc, words.word(2))?,
         session: Text::new(alloc, words.word(3))?,
     }))
 }
 
-fn close_line(alloc: Global, words: &Words<'_>) -> Result<Option<ScriptLine>, NoMemory>
-    ensures line { IfOk result (λ line. line ≡ close_line words.now) }
+fn close_line(alloc: Global, host: u8, words: &Words<'_>) -> Result<Option<ScriptLine>, NoMemory>
+    requires { is_host host ≡ true }
+    ensures line { IfOk result (λ line. line ≡ close_line host words.now) }
     ensures fit { IfOk result (λ line. IfSome line (λ said. is_fit_line said ≡ true)) }
 {
     if !(is_named(words, 2) && is_named(words, 3)) {
         return Ok(None);
     }
     Ok(Some(ScriptLine::Close {
-        host: 1,
+        host,
         context: Text::new(alloc, words.word(2))?,
         session: Text::new(alloc, words.word(3))?,
     }))
@@ -297,79 +411,134 @@ fn completed_line(alloc: Global, words: &Words<'_>) -> Result<Option<ScriptLine>
     }))
 }
 
-fn event_line(words: &Words<'_>) -> Option<ScriptLine>
-    ensures line { result ≡ event_line words.now }
-    ensures fit { IfSome result (λ said. is_fit_line said ≡ true) }
+/// The event that a line of three words names.
+fn event_of(words: &Words<'_>) -> Option<HostEvent>
+    ensures { result ≡ event_of words.now }
 {
-    if words.begins(3, b"timeout") {
-        return Some(ScriptLine::Event {
-            host: 1,
-            event: HostEvent::Timeout { group: 1 },
-        });
+    if words.is(0, b"timeout") {
+        return Some(HostEvent::Timeout { group: 1 });
     }
-    if words.begins(3, b"save") {
-        return Some(ScriptLine::Event {
-            host: 1,
-            event: HostEvent::Save { group: 1 },
-        });
+    if words.is(0, b"beat") {
+        return Some(HostEvent::Beat { group: 1 });
     }
-    if words.begins(4, b"apply") {
-        return apply_by(number_of(200_000, words.word(3)));
+    if words.is(0, b"ready") {
+        return Some(HostEvent::Ready { group: 1 });
+    }
+    if words.is(0, b"save") {
+        return Some(HostEvent::Save { group: 1 });
     }
     None
 }
 
-fn request_line(
+fn event_by(host: u8, event: Option<HostEvent>) -> Option<ScriptLine>
+    requires { is_host host ≡ true }
+    ensures line { result ≡ event_by host event }
+    ensures fit { IfSome result (λ said. is_fit_line said ≡ true) }
+{
+    match event {
+        None => None,
+        Some(event) => Some(ScriptLine::Event { host, event }),
+    }
+}
+
+fn apply_by(host: u8, most: Option<u64>) -> Option<ScriptLine>
+    requires host { is_host host ≡ true }
+    requires most { IfSome most (λ n. n ≤ 200000) }
+    ensures line { result ≡ by_number most (λ n. Some (ScriptLine.Event host (HostEvent.Apply 1 n))) }
+    ensures fit { IfSome result (λ said. is_fit_line said ≡ true) }
+{
+    match most {
+        None => None,
+        Some(most) => Some(ScriptLine::Event {
+            host,
+            event: HostEvent::Apply {
+                group: 1,
+                most: most as u32,
+            },
+        }),
+    }
+}
+
+fn event_line(host: u8, words: &Words<'_>) -> Option<ScriptLine>
+    requires { is_host host ≡ true }
+    ensures line { result ≡ event_line host words.now }
+    ensures fit { IfSome result (λ said. is_fit_line said ≡ true) }
+{
+    if words.len() == 3 {
+        return event_by(host, event_of(words));
+    }
+    if words.begins(4, b"apply") {
+        return apply_by(host, positive(number_of(200_000, words.word(3))));
+    }
+    None
+}
+
+fn deliver_line(words: &Words<'_>) -> Option<ScriptLine>
+    ensures line { result ≡ deliver_line words.now }
+    ensures fit { IfSome result (λ said. is_fit_line said ≡ true) }
+{
+    match number_of(u64::MAX, words.word(2)) {
+        None => None,
+        Some(number) => Some(ScriptLine::Deliver { group: 1, number }),
+    }
+}
+
+fn wire_line(words: &Words<'_>) -> Option<ScriptLine>
+    ensures line { result ≡ wire_line words.now }
+    ensures fit { IfSome result (λ said. is_fit_line said ≡ true) }
+{
+    match number_of(u64::MAX, words.word(2)) {
+        None => None,
+        Some(number) => Some(ScriptLine::Wire { group: 1, number }),
+    }
+}
+
+fn replica_line(
     alloc: Global,
+    setup: Setup,
+    host: u8,
     words: &Words<'_>,
     line: &[u8],
 ) -> Result<Option<ScriptLine>, NoMemory>
-    ensures line { IfOk result (λ said. said ≡ request_line words.now line.now) }
+    requires { is_host host ≡ true }
+    ensures line { IfOk result (λ said. said ≡ replica_line setup host words.now line.now) }
     ensures fit { IfOk result (λ line. IfSome line (λ said. is_fit_line said ≡ true)) }
 {
     if words.is(0, b"ask") {
-        return ask_line(alloc, words, behind_four(line));
+        return ask_line(alloc, host, words, behind_four(line));
     }
     if words.is(0, b"read") {
-        return read_request(alloc, words, behind_four(line));
+        return read_request(alloc, setup, host, words, behind_four(line));
     }
     if words.begins(6, b"register") {
-        return register_line(alloc, words);
+        return register_line(alloc, host, words);
     }
     if words.is(0, b"raw") {
-        return raw_line(alloc, words, behind_seven(line));
+        return raw_line(alloc, host, words, behind_seven(line));
     }
-    Ok(event_line(words))
+    Ok(event_line(host, words))
 }
 
 fn session_line(
     alloc: Global,
+    host: u8,
     words: &Words<'_>,
     line: &[u8],
 ) -> Result<Option<ScriptLine>, NoMemory>
-    ensures line { IfOk result (λ said. said ≡ session_line words.now line.now) }
+    requires { is_host host ≡ true }
+    ensures line { IfOk result (λ said. said ≡ session_line host words.now line.now) }
     ensures fit { IfOk result (λ line. IfSome line (λ said. is_fit_line said ≡ true)) }
 {
     if words.is(0, b"call") {
-        return call_line(alloc, words, behind_four(line));
+        return call_line(alloc, host, words, behind_four(line));
     }
     if words.begins(4, b"again") {
-        return again_line(alloc, words);
+        return again_line(alloc, host, words);
     }
     if words.begins(4, b"close") {
-        return close_line(alloc, words);
+        return close_line(alloc, host, words);
     }
     Ok(None)
-}
-
-fn settle_line(words: &Words<'_>) -> Option<ScriptLine>
-    ensures line { result ≡ settle_line words.now }
-    ensures fit { IfSome result (λ said. is_fit_line said ≡ true) }
-{
-    if !words.is(1, b"1") {
-        return None;
-    }
-    Some(ScriptLine::Settle { group: 1 })
 }
 
 fn is_session_verb(words: &Words<'_>) -> bool
@@ -378,26 +547,70 @@ fn is_session_verb(words: &Words<'_>) -> bool
     words.is(0, b"call") || words.is(0, b"again") || words.is(0, b"close")
 }
 
-fn later_line(alloc: Global, words: &Words<'_>, line: &[u8]) -> Result<Option<ScriptLine>, NoMemory>
-    ensures line { IfOk result (λ said. said ≡ later_line words.now line.now) }
+fn line_at(
+    alloc: Global,
+    setup: Setup,
+    host: u8,
+    words: &Words<'_>,
+    line: &[u8],
+) -> Result<Option<ScriptLine>, NoMemory>
+    requires { is_host host ≡ true }
+    ensures line { IfOk result (λ said. said ≡ line_at setup host words.now line.now) }
     ensures fit { IfOk result (λ line. IfSome line (λ said. is_fit_line said ≡ true)) }
 {
     if is_session_verb(words) {
-        if !words.is(1, b"1") {
-            return Ok(None);
-        }
-        return session_line(alloc, words, line);
+        return session_line(alloc, host, words, line);
     }
-    if words.begins(2, b"completed") {
-        return completed_line(alloc, words);
-    }
-    if words.begins(2, b"settle") {
-        return Ok(settle_line(words));
-    }
-    if is_ours(words) {
-        return request_line(alloc, words, line);
+    if is_group(words, 2) {
+        return replica_line(alloc, setup, host, words, line);
     }
     Ok(None)
+}
+
+fn wire_lines(words: &Words<'_>) -> Option<ScriptLine>
+    ensures line { result ≡ wire_lines words.now }
+    ensures fit { IfSome result (λ said. is_fit_line said ≡ true) }
+{
+    if words.begins(2, b"settle") {
+        return Some(ScriptLine::Settle { group: 1 });
+    }
+    if words.begins(2, b"lose") {
+        return Some(ScriptLine::Lose { group: 1 });
+    }
+    if words.begins(3, b"deliver") {
+        return deliver_line(words);
+    }
+    if words.begins(3, b"wire") {
+        return wire_line(words);
+    }
+    None
+}
+
+fn is_wire_verb(words: &Words<'_>) -> bool
+    ensures { result ≡ is_wire_verb words.now }
+{
+    words.is(0, b"settle")
+        || words.is(0, b"lose")
+        || words.is(0, b"deliver")
+        || words.is(0, b"wire")
+}
+
+/// A line of a host, if one is named.
+fn line_of(
+    alloc: Global,
+    setup: Setup,
+    host: Option<u8>,
+    words: &Words<'_>,
+    line: &[u8],
+) -> Result<Option<ScriptLine>, NoMemory>
+    requires { IfSome host (λ h. is_host h ≡ true) }
+    ensures line { IfOk result (λ said. said ≡ by_number host (λ h. line_at setup h words.now line.now)) }
+    ensures fit { IfOk result (λ line. IfSome line (λ said. is_fit_line said ≡ true)) }
+{
+    match host {
+        None => Ok(None),
+        Some(host) => line_at(alloc, setup, host, words, line),
+    }
 }
 
 fn said_in(
@@ -409,11 +622,22 @@ fn said_in(
     ensures line { IfOk result (λ said. said ≡ said_in setup words.now line.now) }
     ensures fit { IfOk result (λ line. IfSome line (λ said. is_fit_line said ≡ true)) }
 {
-    match setup {
-        Setup::Nothing => Ok(host_line(words)),
-        Setup::Host => group_line(alloc, words),
-        Setup::Group => later_line(alloc, words, line),
+    if words.begins(2, b"host") {
+        return Ok(host_line(words));
     }
+    if words.is(0, b"group") {
+        return group_line(alloc, words);
+    }
+    if words.begins(2, b"completed") {
+        return completed_line(alloc, words);
+    }
+    if is_wire_verb(words) {
+        if !is_group(words, 1) {
+            return Ok(None);
+        }
+        return Ok(wire_lines(words));
+    }
+    line_of(alloc, setup, host_at(words, 1), words, line)
 }
 
 fn line_in(
@@ -441,7 +665,7 @@ fn is_skipped(line: &[u8]) -> bool
     }
 }
 
-/// What a line says where so much is declared, if it is one.
+/// What a line says behind so much, if it is one.
 #[tactic(auto, unfolding(run_model::specs::Script::read_line))]
 pub fn read_line(alloc: Global, setup: Setup, line: &[u8]) -> Result<Option<ScriptLine>, NoMemory>
     ensures line { IfOk result (λ said. said ≡ read_line setup line.now) }
@@ -457,16 +681,17 @@ pub fn read_line(alloc: Global, setup: Setup, line: &[u8]) -> Result<Option<Scri
     line_in(alloc, setup, &words, line)
 }
 
-/// What is declared behind a line.
+/// Which groups were named behind a line, also one that is refused.
 pub fn setup_after(line: &ScriptLine, setup: Setup) -> Setup
     ensures { result ≡ setup_after line.now setup }
 {
     match line {
-        ScriptLine::Host { .. } => Setup::Host,
-        ScriptLine::Group { .. } => Setup::Group,
+        ScriptLine::Group { roster, .. } => named_group(roster.bytes(), setup),
         ScriptLine::Skipped
         | ScriptLine::End
+        | ScriptLine::Host { .. }
         | ScriptLine::Event { .. }
+        | ScriptLine::Deliver { .. }
         | ScriptLine::Ask { .. }
         | ScriptLine::Read { .. }
         | ScriptLine::Register { .. }
@@ -475,6 +700,17 @@ pub fn setup_after(line: &ScriptLine, setup: Setup) -> Setup
         | ScriptLine::Completed { .. }
         | ScriptLine::Close { .. }
         | ScriptLine::Raw { .. }
-        | ScriptLine::Settle { .. } => setup,
+        | ScriptLine::Settle { .. }
+        | ScriptLine::Lose { .. }
+        | ScriptLine::Wire { .. } => setup,
     }
+}
+
+fn named_group(roster: &[u8], setup: Setup) -> Setup
+    ensures { result ≡ named_group roster.now setup }
+{
+    if roster.len() > 1 {
+        return Setup::Several;
+    }
+    setup
 }

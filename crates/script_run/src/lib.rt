@@ -1,22 +1,28 @@
 //! The run of a script over a source and a sink: its lines are read as they come, run one after
-//! another over a host of its own, and what they print is put piece by piece.
+//! another over a world of its own, and what they print is put piece by piece.
 #![tactic(auto)]
 
+mod acting;
+mod asking;
 mod buffer;
 mod cell;
 mod clients;
 mod contexts;
 mod cut;
 mod ending;
+mod events;
 mod grammar;
-mod host;
 mod lines;
+mod node;
+mod notes;
 mod print;
-mod replica;
 mod requests;
+mod settle;
 mod stream;
 #[cfg(test)]
 mod tests;
 mod top;
+mod turn;
+mod world;
 
 pub use top::{Status, run_top};

@@ -8,17 +8,17 @@ ghost use Rattle.script_run.specs.Top.{HasGone, place_of};
 use crate::buffer::Buffer;
 use crate::cut::first_line;
 use crate::grammar::{read_line, setup_after};
-use crate::host::Host;
 use crate::print::print_line;
+use crate::world::World;
 use host_ids::NoMemory;
 use run_model::{Limit, ScriptLine, Setup, Stop, Told, Tolds};
 use std::alloc::Global;
 
-/// A run that is under way: the host, what the script has declared, and how many lines of how many
-/// bytes were run.
+/// A run that is under way: its world, which groups the script has named, and how many lines of how
+/// many bytes were run.
 #[derive(Drop)]
 pub struct Runner {
-    pub host: Host,
+    pub world: World,
     pub setup: Setup,
     pub lines: u64,
     pub size: usize,
@@ -52,16 +52,16 @@ fn run_line(
     alloc: Global,
     line: ScriptLine,
     size: usize,
-    host: &mut Host,
+    world: &mut World,
     out: &mut Buffer,
 ) -> Result<Option<Limit>, NoMemory>
     requires { is_fit_line line ≡ true }
-    ensures world { OnOk result (world_of host.new ≡ (turn line size (world_of host.old)).world) }
-    ensures told { OnOk result (out.new ≡ out.old ++ text_of (turn line size (world_of host.old)).told) }
-    ensures full { IfOk result (λ full. full ≡ (turn line size (world_of host.old)).full) }
+    ensures world { OnOk result (world_of world.new ≡ (turn line size (world_of world.old)).world) }
+    ensures told { OnOk result (out.new ≡ out.old ++ text_of (turn line size (world_of world.old)).told) }
+    ensures full { IfOk result (λ full. full ≡ (turn line size (world_of world.old)).full) }
 {
     let mut told = Tolds::new(alloc);
-    let full = host.turn(line, size, &mut told)?;
+    let full = world.turn(line, size, &mut told)?;
     print_all(told.items(), out)?;
     Ok(full)
 }
@@ -80,7 +80,7 @@ pub fn run_whole<'a>(
 {
     let mut rest = text;
     'script: while let Some((line, after)) = first_line(rest) {
-        if let Some(limit) = runner.host.reached(runner.size) {
+        if let Some(limit) = runner.world.reached(runner.size) {
             let stop = Stop::Full { limit };
             return Ok(Progress::Stopped { stop });
         }
@@ -95,7 +95,7 @@ pub fn run_whole<'a>(
         }
         let size = runner.size + (line.len() + 1);
         runner.setup = setup_after(&said, runner.setup);
-        if let Some(limit) = run_line(alloc, said, size, &mut runner.host, out)? {
+        if let Some(limit) = run_line(alloc, said, size, &mut runner.world, out)? {
             let stop = Stop::Full { limit };
             return Ok(Progress::Stopped { stop });
         }
@@ -103,7 +103,7 @@ pub fn run_whole<'a>(
         runner.size = size;
         rest = after;
     }
-    let full = runner.host.reached(runner.size);
+    let full = runner.world.reached(runner.size);
     if let Some(limit) = full {
         let stop = Stop::Full { limit };
         return Ok(Progress::Stopped { stop });

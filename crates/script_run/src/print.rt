@@ -1,10 +1,10 @@
 ghost use Rattle.std.specs.Prelude.{◌≡◌, ◌++◌, [], ◌∷◌, OnOk, decimal};
-ghost use Rattle.run_model.specs.Print.{print_line, ending_text, limit_text, line_text, proposal_text};
+ghost use Rattle.run_model.specs.Print.{print_line, ending_text, kind_text, limit_text, line_text, proposal_text};
 
 use crate::buffer::Buffer;
 use host_ids::{NoMemory, Proposal, Text};
 use object_model::Ending;
-use run_model::{Limit, Line};
+use run_model::{EnvelopeKind, Limit, Line};
 
 /// Adds a space and a proposal.
 fn print_proposal(out: &mut Buffer, proposal: &Proposal) -> Result<(), NoMemory>
@@ -81,7 +81,27 @@ fn print_limit(out: &mut Buffer, limit: Limit) -> Result<(), NoMemory>
 {
     match limit {
         Limit::Entries => out.text(b"limit entries 200000"),
+        Limit::Envelopes => out.text(b"limit envelopes 400000"),
         Limit::Script => out.text(b"limit script 67108864"),
+    }
+}
+
+/// What an envelope says.
+fn kind_text(kind: EnvelopeKind) -> &'static [u8]
+    ensures { result.now ≡ kind_text kind }
+{
+    match kind {
+        EnvelopeKind::Vote => b"vote",
+        EnvelopeKind::VoteReply => b"votereply",
+        EnvelopeKind::Append => b"append",
+        EnvelopeKind::AppendReply => b"appendreply",
+        EnvelopeKind::Beat => b"beat",
+        EnvelopeKind::BeatReply => b"beatreply",
+        EnvelopeKind::SnapChunk => b"snapchunk",
+        EnvelopeKind::SnapReply => b"snapreply",
+        EnvelopeKind::Propose => b"propose",
+        EnvelopeKind::ReadAsk => b"readask",
+        EnvelopeKind::ReadAnswer => b"readanswer",
     }
 }
 
@@ -123,6 +143,20 @@ fn print_text(out: &mut Buffer, context: &Text, line: &Line) -> Result<(), NoMem
         Line::Dropped { .. } => {
             out.text(b"dropped")?;
             out.word(context.bytes())
+        }
+        Line::Wire {
+            group,
+            number,
+            from,
+            to,
+            kind,
+            term,
+        } => {
+            print_numbers(out, b"wire", u64::from(*group), *number)?;
+            out.number(u64::from(*from))?;
+            out.number(u64::from(*to))?;
+            out.word(kind_text(*kind))?;
+            out.number(*term)
         }
         Line::Entry { group, entry } => {
             print_numbers(out, b"entry", u64::from(*group), entry.index)?;

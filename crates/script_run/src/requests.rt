@@ -1,7 +1,9 @@
 ghost use Rattle.std.specs.Prelude.{◌≡◌, [], OnOk, IfOk};
-ghost use Rattle.run_model.specs.World.{key_order, waiting_order};
-ghost use Rattle.script_run.specs.Host.{is_due};
-ghost use Rattle.run_model.specs.Run.{awaits, due, joined, keys_with, not_due, want_of, without};
+ghost use Rattle.std.specs.BTreeMap.{insert_entry};
+ghost use Rattle.raft_model.specs.Group.{key_order};
+ghost use Rattle.run_model.specs.World.{waiting_order};
+ghost use Rattle.script_run.specs.Parts.{is_due};
+ghost use Rattle.run_model.specs.Run.{awaits, due, keys_with, not_due, want_of, without};
 
 use host_ids::{Key, NoMemory};
 use run_model::{Waiting, Want};
@@ -19,7 +21,7 @@ pub struct Requests {
 }
 
 impl Model for Requests {
-    ghost use Rattle.run_model.specs.World.{Open};
+    ghost use Rattle.run_model.specs.World.{waiting_order, Open};
 
     ghost Value = { Open };
 
@@ -41,7 +43,7 @@ impl Requests {
 
     /// Adds a request.
     pub fn join(&mut self, key: Key, want: Want) -> Result<(), NoMemory>
-        ensures { OnOk result (self.new ≡ joined key want self.old) }
+        ensures { OnOk result (self.new ≡ record self.old { wants = insert_entry key_order self.old.wants key want }) }
     {
         self.wants.insert(key, want)?;
         Ok(())

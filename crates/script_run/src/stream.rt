@@ -29,11 +29,11 @@ pub fn run_stream<S: Source, K: Sink>(
     runner: &mut Runner,
     sink: &mut K,
 ) -> Result<Streamed, IoFault>
-    requires world { world_of runner.old.host ≡ start }
-    requires setup { runner.old.setup ≡ Setup.Nothing }
+    requires world { world_of runner.old.world ≡ start }
+    requires setup { runner.old.setup ≡ Setup.Single }
     requires lines { runner.old.lines ≡ 0 }
     requires size { runner.old.size ≡ 0 }
-    ensures streamed { IfOk result (λ streamed. HasStreamed (S.left source.old) (S.left source.new) (K.contents sink.old) (K.contents sink.new) streamed (world_of runner.new.host)) }
+    ensures streamed { IfOk result (λ streamed. HasStreamed (S.left source.old) (S.left source.new) (K.contents sink.old) (K.contents sink.new) streamed (world_of runner.new.world)) }
     ensures dry { IfOk result (λ streamed. (line : _) → streamed ≡ Streamed.Dry line → IsAtEnd (S.left source.new)) }
     ensures fault { IfOk result (λ streamed. (line : _) → streamed ≡ Streamed.Faulted line → Rose (S.fault_count source.old) (S.fault_count source.new)) }
     ensures err { OnErr result (GivenUp (S.left source.old) (S.left source.new) (K.contents sink.old) (K.contents sink.new)) }

@@ -1,5 +1,10 @@
 ghost use Rattle.std.specs.Prelude.{Some, drop};
 
+mod elections;
+mod hosts;
+mod refusals;
+mod sending;
+
 use crate::{Status, run_top};
 use fault_io::{IoFault, MemSink, MemSource, Sink, Source};
 use host_ids::Text;
@@ -82,6 +87,41 @@ fn run(
     Ok((status, String::from_utf8_lossy(alloc, sink.bytes())?))
 }
 
+/// The election of host 1 among three hosts, and what it prints.
+const ELECTION: (&str, &str) = (
+    "host 1 / host 2 / host 3 / group 1 regular 1,2,3 / timeout 1 1 / settle 1",
+    "started 1 1 / started 2 1 / started 3 1 / leader 1 1 1",
+);
+
+/// A text of lines that are parted by ` / `, where the first may stand for an election, and `LONG` for
+/// a value of 600 bytes.
+fn lines_of(rt: &HostRuntime, text: &str, election: &str) -> Result<String, Fail> {
+    let alloc = rt.alloc();
+    let mut long = String::new(alloc);
+    for _ in 0..600 {
+        long.push_str("v")?;
+    }
+    let mut lines = String::new(alloc);
+    for (place, line) in text.split(" / ").enumerate() {
+        if place == 0 && line == "E" {
+            lines.push_str(election)?;
+        } else {
+            lines.push_str(line)?;
+        }
+        lines.push_str(" / ")?;
+    }
+    let lines = lines.replace(alloc, "LONG", long.as_str())?;
+    Ok(lines.replace(alloc, " / ", "\n")?)
+}
+
+/// What a script of lines that are parted by ` / ` gives, and the output that is wanted of it.
+fn outcome(rt: &HostRuntime, script: &str, wanted: &str) -> Result<(Status, String, String), Fail> {
+    let script = lines_of(rt, script, ELECTION.0)?;
+    let wanted = lines_of(rt, wanted, ELECTION.1)?;
+    let (status, text) = run(rt, "run", script.as_str(), &[], &[])?;
+    Ok((status, text, wanted))
+}
+
 #[test]
 fn worked_scripts(rt: HostRuntime) -> Result<(), Fail> {
     let (put_and_get, printed) = PUT_AND_GET;
@@ -102,9 +142,18 @@ fn worked_scripts(rt: HostRuntime) -> Result<(), Fail> {
         ("", 3, "badline 1\n"),
         ("end\nwhat follows is not judged", 0, "end\n"),
         ("\n# a comment\nhost 1\n\nend\n", 0, "started 1 1\nend\n"),
-        ("#\ngroup 1 regular 1\nend\n", 3, "badline 2\n"),
-        ("host 1\nhost 1\nend\n", 3, "started 1 1\nbadline 2\n"),
-        ("host 1\n#\nsettle 1\nend\n", 3, "started 1 1\nbadline 3\n"),
+        ("#\ngroup 1 regular 1\nend\n", 0, "refused 1\nend\n"),
+        ("host 1\nhost 1\nend\n", 0, "started 1 1\nrefused 13\nend\n"),
+        (
+            "host 1\n#\nsettle 1\nend\n",
+            0,
+            "started 1 1\nrefused 2\nend\n",
+        ),
+        (
+            "group 1 regular 1,2\nread 1 1 a get x\nend\n",
+            3,
+            "refused 1\nbadline 2\n",
+        ),
         (
             "host 1\ngroup 1 regular 1\nsettle 1 1\nend\n",
             3,
@@ -291,11 +340,33 @@ fn numbers_out_of_range(rt: HostRuntime) -> Result<(), Fail> {
         "register 1 1 a s 0",
         "register 1 1 a s",
         "call 1 a s",
-        "call 2 a s put x 1",
+        "call 0 a s put x 1",
         "again 1 a",
         "completed",
         "close 1 a",
         "register 1 1 a S 1",
+        "host 0",
+        "host 10",
+        "host 01",
+        "group 1 regular 0",
+        "group 1 regular 2,1",
+        "group 1 regular 1,1",
+        "group 1 regular 1,",
+        "group 1 regular 1,2,3,4,5,6,7,8",
+        "group 2 regular 1",
+        "group 1 concurrent 1",
+        "timeout 1 2",
+        "timeout 0 1",
+        "beat 1",
+        "ready 1 1 1",
+        "save 10 1",
+        "apply 1 1 0",
+        "apply 1 1 200001",
+        "deliver 1 18446744073709551616",
+        "deliver 1",
+        "wire 1 01",
+        "lose 2",
+        "settle 1 1",
     ] {
         let script = format!(in rt.alloc(); "host 1\ngroup 1 regular 1 4096\n{line}\nend\n")?;
         let (status, text) = run(&rt, "run", script.as_str(), &[], &[])?;
@@ -312,6 +383,38 @@ fn numbers_out_of_range(rt: HostRuntime) -> Result<(), Fail> {
         assert_eq!(rt; status.number, 3, "{line}");
         assert_eq!(rt; text.as_str(), "started 1 1\nbadline 2\n", "{line}");
     }
+    Ok(())
+}
+
+/// Adds an ask for each number up to a last one.
+fn push_asks(rt: &HostRuntime, script: &mut String, start: &str, last: u64) -> Result<(), Fail> {
+    for number in 1..=last {
+        script.push_str(format!(in rt.alloc(); "{start}{number} add n 1\n")?.as_str())?;
+    }
+    Ok(())
+}
+
+/// A leader backs up over thirty entries of another term, two rounds for each, so its settle stops
+/// behind its 64 rounds and leaves something to save.
+#[test]
+fn rounds_end(rt: HostRuntime) -> Result<(), Fail> {
+    let mut script = lines_of(&rt, "E", ELECTION.0)?;
+    push_asks(&rt, &mut script, "ask 1 1 a", 31)?;
+    let second =
+        "save 1 1 / lose 1 / timeout 2 1 / save 2 1 / deliver 1 72 / save 3 1 / deliver 1 73 / save 2 1";
+    script.push_str(lines_of(&rt, second, "")?.as_str())?;
+    push_asks(&rt, &mut script, "ask 2 1 b", 30)?;
+    let third =
+        "save 2 1 / deliver 1 135 / save 3 1 / lose 1 / timeout 3 1 / save 3 1 / deliver 1 137 / deliver 1 138 / lose 1 / settle 1 / wire 1 205 / wire 1 206 / ready 1 1 / ready 3 1 / settle 1 / wire 1 206 / end";
+    script.push_str(lines_of(&rt, third, "")?.as_str())?;
+    let (status, text) = run(&rt, "run", script.as_str(), &[], &[])?;
+    assert_eq!(rt; status.number, 0);
+    assert!(rt;
+        text.as_str().contains(
+            "leader 3 1 3\nwire 1 205 3 1 append 3\nrefused 9\nidle\nwire 1 206 1 3 appendreply 3\n"
+        ),
+        "{text}"
+    );
     Ok(())
 }
 

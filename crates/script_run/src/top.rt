@@ -5,9 +5,9 @@ ghost use Rattle.script_run.specs.World.{world_of};
 
 use crate::buffer::Buffer;
 use crate::ending::print_ending;
-use crate::host::Host;
 use crate::lines::Runner;
 use crate::stream::{Streamed, run_stream};
+use crate::world::World;
 use fault_io::{IoFault, Sink, Source, put_all};
 use host_ids::Text;
 use run_law::{runs_are_legal, scripts_end};
@@ -45,12 +45,18 @@ fn is_run(words: &[Text]) -> bool
 }
 
 /// Puts what is printed so far and the last lines of a run that stops here, at once.
-fn finish<K: Sink>(alloc: Global, stop: Stop, host: &Host, mut out: Buffer, sink: &mut K) -> Status
-    ensures finished { Finished (K.contents sink.old) (K.contents sink.new) out stop (world_of host.now) result.number }
+fn finish<K: Sink>(
+    alloc: Global,
+    stop: Stop,
+    world: &World,
+    mut out: Buffer,
+    sink: &mut K,
+) -> Status
+    ensures finished { Finished (K.contents sink.old) (K.contents sink.new) out stop (world_of world.now) result.number }
     ensures write { result.number ≡ 5 → Rose (K.fault_count sink.old) (K.fault_count sink.new) }
     ensures later { K.fault_count sink.old ≤ K.fault_count sink.new }
 {
-    if print_ending(alloc, stop, host, &mut out).is_err() {
+    if print_ending(alloc, stop, world, &mut out).is_err() {
         return Status { number: 8 };
     }
     match put_all(sink, out.bytes()) {
@@ -74,20 +80,20 @@ fn run_script<S: Source, K: Sink>(alloc: Global, source: &mut S, sink: &mut K) -
 {
     runs_are_legal();
     scripts_end();
-    let Ok(host) = Host::new(alloc) else {
+    let Ok(world) = World::new(alloc) else {
         return Status { number: 8 };
     };
     let mut runner = Runner {
-        host,
-        setup: Setup::Nothing,
+        world,
+        setup: Setup::Single,
         lines: 0,
         size: 0,
     };
     match run_stream(alloc, source, &mut runner, sink) {
-        Ok(Streamed::Stopped { stop, out }) => finish(alloc, stop, &runner.host, out, sink),
+        Ok(Streamed::Stopped { stop, out }) => finish(alloc, stop, &runner.world, out, sink),
         Ok(Streamed::Dry { line }) => {
             let out = Buffer::new(alloc);
-            finish(alloc, Stop::Spent { line }, &runner.host, out, sink)
+            finish(alloc, Stop::Spent { line }, &runner.world, out, sink)
         }
         Ok(Streamed::Faulted { .. }) => Status { number: 4 },
         Err(IoFault::Failed) => Status { number: 5 },
@@ -102,16 +108,17 @@ fn run_script<S: Source, K: Sink>(alloc: Global, source: &mut S, sink: &mut K) -
 /// before it takes the next piece. Other words print `usage` (`usage_line`), and take
 /// nothing (`usage_take`); a fault of the sink is ignored then.
 ///
-/// Statuses, each with the clause that ties it to its cause: 0 at the word `end` (`done`), and then
-/// the whole output is legal for each group by the entries that it shows (`headline`); 2 where the
-/// words are not `run` (`usage`); 3 where a line is bad or the last one isn't whole (`bad_line`);
-/// 4 where the source failed in this call (`read_fault`), and 5 where the sink did (`write_fault`);
-/// 7 where, before a line or before an event of a `settle`, leaders have appended 200,000 entries or
-/// more, or the lines that were read have 67,108,864 bytes or more (`limit`); 8 where memory ran
-/// out, which has no cause in a clause. A script of the grammar that reaches no limit gives 0 or 8
-/// where neither the source nor the sink fails (`complete`). At 0, 3 and 7 all of the run's output is written
-/// (`lines`), at 4 what the lines that were taken print (`cut`), at 5 and 8 a front of the output
-/// (`front`). Fewer than 67,121,153 bytes are taken (`bound`). Source: this project's own.
+/// Statuses, each with the clause that ties it to its cause: 0 at the word `end` (`done`), and then,
+/// where the group has one voter, the whole output is legal for each group by the entries that it
+/// shows (`headline`); 2 where the words are not `run` (`usage`); 3 where a line is bad or the last one
+/// isn't whole (`bad_line`); 4 where the source failed in this call (`read_fault`), and 5 where the
+/// sink did (`write_fault`); 7 where, before a line or before an event of a `settle`, leaders have
+/// appended 200,000 entries or more, 400,000 envelopes or more were sent, or the lines that were read
+/// have 67,108,864 bytes or more (`limit`); 8 where memory ran out, which has no cause in a clause. A
+/// script of the grammar that reaches no limit gives 0 or 8 where neither the source nor the sink
+/// fails (`complete`). At 0, 3 and 7 all of the run's output is written (`lines`), at 4 what the lines
+/// that were taken print (`cut`), at 5 and 8 a front of the output (`front`). Fewer than 67,121,153
+/// bytes are taken (`bound`). Source: this project's own.
 pub fn run_top<S: Source, K: Sink>(
     alloc: Global,
     words: &[Text],

@@ -1,6 +1,7 @@
 ghost use Rattle.std.specs.Prelude.{◌≡◌, IfOk};
 
-use host_ids::{Entries, Key, NoMemory, Proposal, Text};
+use crate::shared::SharedEntries;
+use host_ids::{Key, NoMemory, Proposal, Text};
 use std::alloc::Global;
 
 /// A message from one replica of a group to another.
@@ -49,7 +50,7 @@ pub enum Body {
         /// The leader's commit index.
         commit: u64,
         /// The entries from `prev` + 1 on.
-        entries: Entries,
+        entries: SharedEntries,
     },
     /// The answer to a leader that sent entries.
     AppendReply {
@@ -132,7 +133,7 @@ impl Envelope {
 
 impl Body {
     /// Another body of the same contents. The only error is want of memory.
-    pub fn copy(&self, alloc: Global) -> Result<Body, NoMemory>
+    pub fn copy(&self, _alloc: Global) -> Result<Body, NoMemory>
         ensures { IfOk result (λ copy. copy ≡ self.now) }
     {
         match self {
@@ -150,7 +151,7 @@ impl Body {
                 prev: *prev,
                 prev_term: *prev_term,
                 commit: *commit,
-                entries: Entries::from_slice(alloc, entries.items())?,
+                entries: entries.copy()?,
             }),
             Body::AppendReply { ok, index } => Ok(Body::AppendReply {
                 ok: *ok,

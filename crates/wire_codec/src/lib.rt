@@ -3,9 +3,11 @@
 
 mod envelope;
 mod envelopes;
+mod shared;
 
 pub use envelope::{Body, Envelope};
 pub use envelopes::Envelopes;
+pub use shared::SharedEntries;
 
 #[cfg(test)]
 mod tests;

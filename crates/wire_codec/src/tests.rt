@@ -1,4 +1,4 @@
-use crate::{Body, Envelope, Envelopes};
+use crate::{Body, Envelope, Envelopes, SharedEntries};
 use host_ids::{Entries, Entry, Key, Proposal, Text};
 use std::alloc::Global;
 use std::process::Abort;
@@ -45,7 +45,8 @@ fn envelopes_stay_in_order(rt: HostRuntime) -> Result<(), Fail> {
         serial: 1,
     };
     let mut first = Envelopes::new(alloc);
-    let entries = entries(alloc, key)?;
+    let entries = SharedEntries::new(alloc, entries(alloc, key)?)?;
+    assert!(rt; entries.is_same(&entries.copy()?));
     first.push(envelope(
         1,
         Body::Append {

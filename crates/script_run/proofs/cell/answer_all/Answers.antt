@@ -12,7 +12,7 @@ abbrev no_key : Key
 no_key = record { host = 0; start = 0; serial = 0 }
 
 -- one read more is answered
-turn : (contexts : List (List ℕ)) (c : Cell) (keys : List Key) (i : ℕ) (wants : List (Key × Want)) → i < length keys
+turn : (contexts : List (List (List ℕ))) (c : Cell) (keys : List Key) (i : ℕ) (wants : List (Key × Want)) → i < length keys
     → answered contexts c (drop i keys) wants ≡ record {
       wants = (answered contexts c (drop (i + 1) keys) (without (get_or keys i no_key) wants)).wants;
       told = answer_told contexts c (get_or keys i no_key) (want_of (get_or keys i no_key) wants) ++ (answered contexts c (drop (i + 1) keys) (without (get_or keys i no_key) wants)).told;

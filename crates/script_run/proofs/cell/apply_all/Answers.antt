@@ -1,6 +1,6 @@
 use Rattle.std.proofs.Common.{◌≡◌, true, sym, subst}
 use Rattle.host_ids.specs.declared.entry.Entry.{Entry}
-use Rattle.script_run.specs.Fit.{is_fit}
+use Rattle.raft_model.specs.Fit.{is_fit}
 use Rattle.script_run.proofs.Fits.{fit_at}
 use Rattle.script_run.proofs.cell.apply_all.Goals as goal
 

@@ -4,4 +4,4 @@ use Rattle.script_run.specs.World.{world_of}
 use Rattle.script_run.proofs.ending.print_entries.Given as goal
 
 abbrev pub invariant-loop-entry : goal.invariant-loop-entry
-invariant-loop-entry l = l.out ≡ l.initial.out ++ text_of (map (entry_told (world_of l.host)) (take l.entry-index l.entries))
+invariant-loop-entry l = l.out ≡ l.initial.out ++ text_of (map (entry_told (world_of l.world)) (take l.entry-index l.entries))

@@ -10,7 +10,7 @@ returns-in-Some-reached c =
     let r = c.script.runner in (
       v.0,
       v.1.printed,
-      λ more. ends v.0 _ _ _ _ (v.1.ahead more) (at_limit r.setup (world_of r.host) r.lines r.size (c.script.rest.now ++ more) c.in-Some-reached.limit (sym c.reached.ensures ∙ c.in-Some-reached.is)),
+      λ more. ends v.0 _ _ _ _ (v.1.ahead more) (at_limit r.setup (world_of r.world) r.lines r.size (c.script.rest.now ++ more) c.in-Some-reached.limit (sym c.reached.ensures ∙ c.in-Some-reached.is)),
     )
 
 pub returns-in_default-2 : goal.returns-in_default-2
@@ -21,7 +21,7 @@ returns-in_default-2 c =
       v.1.printed,
       λ more. ends v.0 _ _ _ _ (v.1.ahead more)
           (rw (c.in-Some.ensures.parts more)
-          (at_bad r.setup (world_of r.host) r.lines r.size c.in-Some.line.now (c.in-Some.after.now ++ more) (sym c.reached.ensures ∙ c.in_default-reached.is) (sym c.in_ok-said.ensures.line ∙ c.in_default-2.is))),
+          (at_bad r.setup (world_of r.world) r.lines r.size c.in-Some.line.now (c.in-Some.after.now ++ more) (sym c.reached.ensures ∙ c.in_default-reached.is) (sym c.in_ok-said.ensures.line ∙ c.in_default-2.is))),
     )
 
 pub returns-then-is_end : goal.returns-then-is_end
@@ -32,14 +32,14 @@ returns-then-is_end c =
       v.1.printed,
       λ more. ends v.0 _ _ _ _ (v.1.ahead more)
           (rw (c.in-Some.ensures.parts more)
-          (at_end r.setup (world_of r.host) r.lines r.size c.in-Some.line.now (c.in-Some.after.now ++ more) c.in-Some-2.said (sym c.reached.ensures ∙ c.in_default-reached.is) (sym c.in_ok-said.ensures.line ∙ c.in-Some-2.is) (sym c.is_end.ensures ∙ c.if-is_end.true))),
+          (at_end r.setup (world_of r.world) r.lines r.size c.in-Some.line.now (c.in-Some.after.now ++ more) c.in-Some-2.said (sym c.reached.ensures ∙ c.in_default-reached.is) (sym c.in_ok-said.ensures.line ∙ c.in-Some-2.is) (sym c.is_end.ensures ∙ c.if-is_end.true))),
     )
 
 pub returns-in-Some-3 : goal.returns-in-Some-3
 returns-in-Some-3 c =
     let v = c.script.invariant in
     let r = c.script.runner in
-    let w = world_of r.host in
+    let w = world_of r.world in
     let lines = text_of (turn c.in-Some-2.said (r.size + (length c.in-Some.line.now + 1)) w).told in (
       v.0 ++ lines,
       c.in_ok-limit.ensures.told ∙ ap (λ (l : List ℕ). l ++ lines) v.1.printed ∙ append_assoc c.args.out.now v.0 lines,
@@ -52,7 +52,7 @@ pub script-preserved : goal.script-preserved
 script-preserved c =
     let v = c.script.invariant in
     let r = c.script.runner in
-    let w = world_of r.host in
+    let w = world_of r.world in
     let lines = text_of (turn c.in-Some-2.said (r.size + (length c.in-Some.line.now + 1)) w).told in (
       v.0 ++ lines,
       record {
@@ -71,7 +71,7 @@ returns-in-Some-full c =
     let r = c.script.runner in (
       v.0,
       v.1.printed,
-      λ more. ends v.0 _ _ _ _ (v.1.ahead more) (at_limit r.setup (world_of r.host) r.lines r.size (c.script.rest.now ++ more) c.in-Some-full.limit (sym c.reached-full.ensures ∙ c.in-Some-full.is)),
+      λ more. ends v.0 _ _ _ _ (v.1.ahead more) (at_limit r.setup (world_of r.world) r.lines r.size (c.script.rest.now ++ more) c.in-Some-full.limit (sym c.reached-full.ensures ∙ c.in-Some-full.is)),
     )
 
 pub returns-then-rest-gt4096 : goal.returns-then-rest-gt4096
@@ -81,21 +81,21 @@ returns-then-rest-gt4096 c =
       v.0,
       v.1.printed,
       λ more. ends v.0 _ _ _ _ (v.1.ahead more)
-          (at_long r.setup (world_of r.host) r.lines r.size c.script.rest.now more (sym c.reached-full.ensures ∙ c.in_default-full.is) c.in_default.ensures.parts c.if-rest-gt4096.true),
+          (at_long r.setup (world_of r.world) r.lines r.size c.script.rest.now more (sym c.reached-full.ensures ∙ c.in_default-full.is) c.in_default.ensures.parts c.if-rest-gt4096.true),
     )
 
 pub returns : goal.returns
 returns c =
     let v = c.script.invariant in
     let r = c.script.runner in
-    let within : reached (world_of r.host) r.size ≡ None = sym c.reached-full.ensures ∙ c.in_default-full.is in (
+    let within : reached (world_of r.world) r.size ≡ None = sym c.reached-full.ensures ∙ c.in_default-full.is in (
       v.0,
       v.1.printed,
       record {
         ahead = v.1.ahead;
         open_end = c.in_default.ensures.parts;
         short = c.if-rest-gt4096.false;
-        below = reached_below (world_of r.host) r.size within;
+        below = reached_below (world_of r.world) r.size within;
         within = within;
         sizes = v.1.sizes;
         counts = v.1.counts;

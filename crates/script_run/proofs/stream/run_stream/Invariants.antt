@@ -12,7 +12,7 @@ invariant-source g l =
       under : Under (g.S.Source.left l.initial.source) (g.S.Source.left l.source) (g.K.Sink.contents l.initial.sink) (g.K.Sink.contents l.sink) (place_of l.runner) l.held.items script done;
       counts : l.runner.lines ≤ l.runner.size;
       below : l.runner.size < most_bytes;
-      within : reached (world_of l.runner.host) l.runner.size ≡ None;
+      within : reached (world_of l.runner.world) l.runner.size ≡ None;
       short : length l.held.items ≤ 4096;
       open_end : HasNoFeed l.held.items;
       later_source : g.S.Source.fault_count l.initial.source ≤ g.S.Source.fault_count l.source;

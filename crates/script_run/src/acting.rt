@@ -1,0 +1,225 @@
+ghost use Rattle.std.specs.Prelude.{◌≡◌, ◌<◌, ◌^◌, ◌+◌, ◌-◌, ◌++◌, ◌∷◌, [], length, OnOk, IfOk, if◌then◌else◌};
+ghost use Rattle.raft_model.specs.Group.{act, is_member};
+ghost use Rattle.group_world.specs.Events.{IsGiven};
+ghost use Rattle.run_model.specs.World.{is_declared, node_at};
+ghost use Rattle.run_model.specs.Run.{bare, core, has_any, has_group, is_ripe, is_unsaved, is_used, moved, next_key, noted, reached, unsettled};
+ghost use Rattle.script_run.specs.Parts.{is_memory, leads};
+ghost use Rattle.script_run.specs.World.{world_of};
+
+use crate::cell::tell;
+use crate::notes::tell_notes;
+use crate::world::World;
+use group_world::Lane;
+use host_ids::{Entries, Key, NoMemory, Text};
+use raft_core::{LaneEvent, LaneFault, Note, Role};
+use run_model::{Limit, Line, Tolds};
+use std::alloc::Global;
+
+/// A run stops where leaders have appended so many entries.
+const MOST_ENTRIES: u64 = 200_000;
+
+/// A run stops where so many envelopes were sent.
+const MOST_ENVELOPES: u64 = 400_000;
+
+/// A run stops where the lines that were read have so many bytes.
+const MOST_BYTES: usize = 67_108_864;
+
+fn has_any(voters: &[u8]) -> bool
+    ensures { result ≡ has_any voters.now }
+{
+    match voters {
+        [] => false,
+        [_, ..] => true,
+    }
+}
+
+fn leads(role: Role) -> bool
+    ensures { result ≡ leads role }
+{
+    matches!(role, Role::Leader)
+}
+
+/// How many entries an event appended where these were the last indices before and behind it.
+fn appended_by(role: Role, before: u64, behind: u64) -> u64
+    ensures { result ≡ (if leads role then behind - before else 0) }
+{
+    if leads(role) {
+        behind.saturating_sub(before)
+    } else {
+        0
+    }
+}
+
+/// How many entries there are.
+fn count_of(entries: &Entries) -> usize
+    ensures { length entries.now < 2 ^ 63 }
+{
+    entries.items().len()
+}
+
+/// Whether memory ran out.
+fn is_memory(fault: LaneFault) -> bool
+    ensures { result ≡ is_memory fault }
+{
+    matches!(fault, LaneFault::NoMemory)
+}
+
+/// An event of a group: its notes. A refused event changes nothing, and has none.
+fn act_on(alloc: Global, lane: &mut Lane, event: LaneEvent) -> Result<Vec<Note>, NoMemory>
+    requires { IsGiven lane.old event }
+    ensures group { OnOk result (lane.new ≡ (act event lane.old).group) }
+    ensures notes { IfOk result (λ notes. notes.items ≡ (act event lane.old).notes) }
+    ensures voters { OnOk result (lane.new.voters ≡ lane.old.voters) }
+{
+    match lane.act(event) {
+        Ok(notes) => Ok(notes),
+        Err(fault) => {
+            if is_memory(fault) {
+                return Err(NoMemory);
+            }
+            Ok(Vec::new(alloc))
+        }
+    }
+}
+
+impl World {
+    /// Whether a host was declared.
+    pub fn is_declared(&self, host: u8) -> bool
+        ensures { result ≡ is_declared (world_of self.now) host }
+    {
+        match self.declared.get(host as usize) {
+            Some(declared) => *declared,
+            None => false,
+        }
+    }
+
+    /// Whether a host has a replica of the group.
+    pub fn is_voter(&self, host: u8) -> bool
+        ensures { result ≡ is_member (world_of self.now).group host }
+    {
+        self.lane.voters().contains(&host)
+    }
+
+    /// Whether the group was declared.
+    pub fn has_group(&self) -> bool
+        ensures { result ≡ has_group (world_of self.now) }
+    {
+        has_any(self.lane.voters())
+    }
+
+    /// Whether the context was used by a request that wasn't refused.
+    pub fn is_used(&self, context: &Text) -> bool
+        ensures { result ≡ is_used (world_of self.now) context.now }
+    {
+        self.contexts.has(context)
+    }
+
+    /// The key of the next request of a host.
+    pub fn next_key(&self, host: u8) -> Key
+        ensures { result ≡ next_key (world_of self.now) host }
+    {
+        Key {
+            host,
+            start: 1,
+            serial: self.contexts.count(host) + 1,
+        }
+    }
+
+    /// Tells that a line is refused.
+    pub fn refuse(&self, number: u8, out: &mut Tolds) -> Result<(), NoMemory>
+        ensures { OnOk result (out.new ≡ out.old ++ bare (Line.Refused number) ∷ []) }
+    {
+        tell(self.alloc, Line::Refused { number }, out)
+    }
+
+    /// An event of the core that moves the replica of a host: its notes. After want of memory, the only
+    /// error, the world is only to be dropped.
+    pub fn act(&mut self, host: u8, event: LaneEvent) -> Result<Vec<Note>, NoMemory>
+        requires given { IsGiven (world_of self.old).group event }
+        ensures world { OnOk result (world_of self.new ≡ moved host event (world_of self.old)) }
+        ensures notes { IfOk result (λ notes. notes.items ≡ noted event (world_of self.old)) }
+    {
+        if self.broken {
+            return Err(NoMemory);
+        }
+        self.broken = true;
+        let before = self.lane.last(host);
+        let notes = act_on(self.alloc, &mut self.lane, event)?;
+        let more = appended_by(self.lane.role(host), before, self.lane.last(host));
+        self.appended = self.appended.saturating_add(more).min(MOST_ENTRIES);
+        self.broken = false;
+        Ok(notes)
+    }
+
+    /// An event of the core that moves the replica of a host, and the lines of what it noted.
+    pub fn core(&mut self, host: u8, event: LaneEvent, out: &mut Tolds) -> Result<(), NoMemory>
+        requires given { IsGiven (world_of self.old).group event }
+        ensures world { OnOk result (world_of self.new ≡ (core host event (world_of self.old)).world) }
+        ensures told { OnOk result (out.new ≡ out.old ++ (core host event (world_of self.old)).told) }
+    {
+        let notes = self.act(host, event)?;
+        tell_notes(self.alloc, &notes, out)
+    }
+
+    /// The first limit that is reached, where the lines that were read have so many bytes.
+    #[tactic(auto, unfolding(run_model::specs::Run::reached))]
+    pub fn reached(&self, size: usize) -> Option<Limit>
+        ensures { result ≡ reached (world_of self.now) size }
+    {
+        if self.appended >= MOST_ENTRIES {
+            return Some(Limit::Entries);
+        }
+        if self.lane.newest() >= MOST_ENVELOPES {
+            return Some(Limit::Envelopes);
+        }
+        if size >= MOST_BYTES {
+            return Some(Limit::Script);
+        }
+        None
+    }
+
+    /// How many entries the cell of a host was given.
+    pub fn applied(&self, host: u8) -> u64
+        ensures { result ≡ (node_at (world_of self.now) host).cell.applied }
+    {
+        match self.nodes.get(host as usize) {
+            Some(node) => node.applied(),
+            None => 0,
+        }
+    }
+
+    /// Whether an entry of a host may be applied.
+    pub fn is_ripe(&self, host: u8) -> bool
+        ensures { result ≡ is_ripe (world_of self.now) host }
+    {
+        self.applied(host) < self.lane.ripe(host)
+    }
+
+    /// Whether a batch of a host's replica is pending, or something changed that a batch can hold.
+    pub fn is_unsaved(&self, host: u8) -> bool
+        ensures { result ≡ is_unsaved (world_of self.now) host }
+    {
+        if self.lane.batch(host).is_some() {
+            return true;
+        }
+        self.lane.changed(host)
+    }
+
+    /// The decided list of the group.
+    pub fn decided(&self) -> Result<Entries, NoMemory>
+        ensures { IfOk result (λ entries. entries ≡ (world_of self.now).group.decided) }
+    {
+        let decided = self.lane.decided_from(1, u64::MAX)?;
+        count_of(&decided);
+        Ok(decided)
+    }
+
+    /// How many envelopes there are behind the settled number.
+    pub fn unsettled(&self) -> u64
+        ensures count { result ≡ unsettled (world_of self.now) }
+        ensures room { (world_of self.now).settled + result < 2 ^ 64 }
+    {
+        let newest = self.lane.newest();
+        newest.saturating_sub(self.settled)
+    }
+}

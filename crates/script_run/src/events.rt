@@ -1,0 +1,157 @@
+ghost use Rattle.std.specs.Prelude.{◌≡◌, ◌<◌, ◌++◌, ◌+◌, ◌^◌, true, length, OnOk, IfOk};
+ghost use Rattle.run_model.specs.Run.{apply, arrives, deliver, event_step, handed_back, lose, next_entries, pending_at, save, show, taken};
+ghost use Rattle.raft_model.specs.Fit.{are_fit};
+ghost use Rattle.raft_model.specs.Group.{envelope_at, replica_at};
+ghost use Rattle.run_model.specs.World.{node_at};
+ghost use Rattle.script_run.specs.World.{world_of};
+
+use crate::cell::tell;
+use crate::notes::kind_of;
+use crate::world::World;
+use host_ids::{Entries, NoMemory};
+use raft_core::LaneEvent;
+use run_model::{HostEvent, Line, Tolds};
+
+impl World {
+    /// Takes a batch of a host's replica where none is pending.
+    fn take(&mut self, host: u8) -> Result<(), NoMemory>
+        ensures { OnOk result (world_of self.new ≡ taken host (world_of self.old)) }
+    {
+        if self.lane.batch(host).is_some() {
+            return Ok(());
+        }
+        self.act(host, LaneEvent::Ready { host })?;
+        Ok(())
+    }
+
+    /// Hands the pending batch of a host's replica back as saved; idle where none is pending.
+    fn hand_back(&mut self, host: u8, out: &mut Tolds) -> Result<(), NoMemory>
+        ensures world { OnOk result (world_of self.new ≡ (handed_back host (pending_at (world_of self.old) host) (world_of self.old)).world) }
+        ensures told { OnOk result (out.new ≡ out.old ++ (handed_back host (pending_at (world_of self.old) host) (world_of self.old)).told) }
+    {
+        let id = match self.lane.batch(host) {
+            None => return tell(self.alloc, Line::Idle, out),
+            Some(batch) => batch.id,
+        };
+        self.core(host, LaneEvent::Saved { host, id }, out)
+    }
+
+    /// Takes a batch of a host's replica where none is pending, and hands the pending one back as
+    /// saved.
+    pub fn save(&mut self, host: u8, out: &mut Tolds) -> Result<(), NoMemory>
+        ensures world { OnOk result (world_of self.new ≡ (save host (world_of self.old)).world) }
+        ensures told { OnOk result (out.new ≡ out.old ++ (save host (world_of self.old)).told) }
+    {
+        self.take(host)?;
+        self.hand_back(host, out)
+    }
+
+    /// An envelope of this number arrives where it is for; it is refused where there is none.
+    pub fn arrive(&mut self, number: u64, out: &mut Tolds) -> Result<(), NoMemory>
+        ensures world { OnOk result (world_of self.new ≡ (arrives (envelope_at (world_of self.old).group.wire number) number (world_of self.old)).world) }
+        ensures told { OnOk result (out.new ≡ out.old ++ (arrives (envelope_at (world_of self.old).group.wire number) number (world_of self.old)).told) }
+    {
+        let to = match self.lane.envelope(number) {
+            None => return self.refuse(9, out),
+            Some(envelope) => envelope.to,
+        };
+        self.core(to, LaneEvent::Deliver { number }, out)
+    }
+
+    /// The line `deliver`.
+    #[tactic(auto, unfolding(run_model::specs::Run::deliver))]
+    pub fn deliver(&mut self, number: u64, out: &mut Tolds) -> Result<(), NoMemory>
+        ensures world { OnOk result (world_of self.new ≡ (deliver number (world_of self.old)).world) }
+        ensures told { OnOk result (out.new ≡ out.old ++ (deliver number (world_of self.old)).told) }
+    {
+        if !self.has_group() {
+            return self.refuse(2, out);
+        }
+        self.arrive(number, out)
+    }
+
+    /// The line `wire`: shows an envelope.
+    #[tactic(auto, unfolding(run_model::specs::Run::show))]
+    pub fn show(&self, number: u64, out: &mut Tolds) -> Result<(), NoMemory>
+        ensures told { OnOk result (out.new ≡ out.old ++ (show number (world_of self.now)).told) }
+        ensures world { (show number (world_of self.now)).world ≡ world_of self.now }
+    {
+        if !self.has_group() {
+            return self.refuse(2, out);
+        }
+        match self.lane.envelope(number) {
+            None => self.refuse(9, out),
+            Some(envelope) => {
+                let line = Line::Wire {
+                    group: 1,
+                    number,
+                    from: envelope.from,
+                    to: envelope.to,
+                    kind: kind_of(&envelope.body),
+                    term: envelope.term,
+                };
+                tell(self.alloc, line, out)
+            }
+        }
+    }
+
+    /// The line `lose`: no settle delivers what was sent so far.
+    #[tactic(auto, unfolding(run_model::specs::Run::lose))]
+    pub fn lose(&mut self, out: &mut Tolds) -> Result<(), NoMemory>
+        ensures world { OnOk result (world_of self.new ≡ (lose (world_of self.old)).world) }
+        ensures told { OnOk result (out.new ≡ out.old ++ (lose (world_of self.old)).told) }
+    {
+        if !self.has_group() {
+            return self.refuse(2, out);
+        }
+        self.settled = self.lane.newest();
+        Ok(())
+    }
+
+    /// The entries of a host's log behind what its cell was given, at most so many and none that
+    /// isn't ripe.
+    #[tactic(auto, using(crate::proofs::Fits::length_slice))]
+    fn next_entries(&self, host: u8, most: u32) -> Result<Entries, NoMemory>
+        ensures entries { IfOk result (λ entries. entries ≡ next_entries (replica_at (world_of self.now).group host) (node_at (world_of self.now) host).cell most) }
+        ensures fit { IfOk result (λ entries. are_fit entries ≡ true) }
+        ensures room { IfOk result (λ entries. (node_at (world_of self.now) host).cell.applied + length entries < 2 ^ 64) }
+    {
+        let applied = self.applied(host);
+        let count = u64::from(most).min(self.lane.ripe(host).saturating_sub(applied));
+        let place = applied.min(self.lane.last(host)).max(self.lane.front(host));
+        match place.checked_add(1) {
+            None => Ok(Entries::new(self.alloc)),
+            Some(first) => self.lane.entries(host, first, count),
+        }
+    }
+
+    /// Gives entries of a host's log to its cell, at most so many; idle where none is ripe.
+    pub fn apply(&mut self, host: u8, most: u32, out: &mut Tolds) -> Result<(), NoMemory>
+        requires { host < 10 }
+        ensures world { OnOk result (world_of self.new ≡ (apply host most (world_of self.old)).world) }
+        ensures told { OnOk result (out.new ≡ out.old ++ (apply host most (world_of self.old)).told) }
+    {
+        if !self.is_ripe(host) {
+            return tell(self.alloc, Line::Idle, out);
+        }
+        let entries = self.next_entries(host, most)?;
+        let node = &mut self.nodes[host as usize];
+        node.apply(&self.contexts, entries.items(), out)
+    }
+
+    /// What an event at a host's replica does.
+    #[tactic(auto, unfolding(run_model::specs::Run::event_step))]
+    pub fn event(&mut self, host: u8, event: HostEvent, out: &mut Tolds) -> Result<(), NoMemory>
+        requires { host < 10 }
+        ensures world { OnOk result (world_of self.new ≡ (event_step host event (world_of self.old)).world) }
+        ensures told { OnOk result (out.new ≡ out.old ++ (event_step host event (world_of self.old)).told) }
+    {
+        match event {
+            HostEvent::Timeout { .. } => self.core(host, LaneEvent::Timeout { host }, out),
+            HostEvent::Beat { .. } => self.core(host, LaneEvent::Beat { host }, out),
+            HostEvent::Ready { .. } => self.core(host, LaneEvent::Ready { host }, out),
+            HostEvent::Save { .. } => self.save(host, out),
+            HostEvent::Apply { most, .. } => self.apply(host, most, out),
+        }
+    }
+}

@@ -1,0 +1,88 @@
+ghost use Rattle.std.specs.Prelude.{◌≡◌, ◌++◌, ◌+◌, ◌<◌, ◌≤◌, ◌^◌, true, IfOk, OnOk, Some, length};
+ghost use Rattle.raft_model.specs.Fit.{are_fit};
+ghost use Rattle.run_model.specs.World.{new_node};
+ghost use Rattle.run_model.specs.Run.{answer_line, answers_due, applied, awaits, fed, joined};
+
+use crate::cell::{Cell, answer_all, answer_line, apply_all};
+use crate::contexts::Contexts;
+use crate::requests::Requests;
+use host_ids::{Entry, Key, NoMemory, Text};
+use run_model::{Line, Tolds, Want};
+use std::alloc::Global;
+use std::marker::Model;
+
+/// What a host keeps beside its replica of the group: the cell that entries are given to, and the
+/// requests that were asked at it and are open. Clauses see it as the node of the rules.
+#[derive(Drop)]
+pub struct Node {
+    cell: Cell,
+    requests: Requests,
+}
+
+impl Model for Node {
+    ghost use Rattle.run_model.specs.World.{Node as NodeValue};
+    ghost use Rattle.script_run.specs.Cell.{cell_of};
+
+    ghost Value = { NodeValue };
+
+    ghost view = { λ n. record { cell = cell_of n.cell; requests = n.requests } };
+}
+
+impl Node {
+    /// A node that was given no entries and was asked nothing. At most `limit`, 1 to 4,096, sessions
+    /// may stand in its cell.
+    pub fn new(alloc: Global, limit: u32) -> Result<Node, NoMemory>
+        requires { (1 ≤ limit) × (limit ≤ 4096) }
+        ensures { IfOk result (λ node. node ≡ new_node limit) }
+    {
+        Ok(Node {
+            cell: Cell::new(alloc, limit)?,
+            requests: Requests::new(alloc),
+        })
+    }
+
+    /// How many entries its cell was given.
+    pub fn applied(&self) -> u64
+        ensures { result ≡ self.now.cell.applied }
+    {
+        self.cell.applied
+    }
+
+    /// The line of a read that is answered now.
+    pub fn answer(&self, key: Key, query: &Text) -> Result<Line, NoMemory>
+        ensures { IfOk result (λ line. line ≡ answer_line self.now.cell key query.now) }
+    {
+        answer_line(&self.cell, key, query)
+    }
+
+    /// A request joins the open ones.
+    pub fn join(&mut self, key: Key, want: Want) -> Result<(), NoMemory>
+        ensures { OnOk result (self.new ≡ joined key want self.old) }
+    {
+        self.requests.join(key, want)
+    }
+
+    /// An open read waits until so many entries are applied.
+    pub fn wait(&mut self, key: Key, front: u64) -> Result<(), NoMemory>
+        ensures { OnOk result (self.new ≡ record self.old { requests = record self.old.requests { waiting = awaits (Some front) key self.old.requests.waiting } }) }
+    {
+        self.requests.wait(key, front)
+    }
+
+    /// Gives entries to the cell, ends their requests, and answers the reads whose front is reached.
+    pub fn apply(
+        &mut self,
+        contexts: &Contexts,
+        entries: &[Entry],
+        out: &mut Tolds,
+    ) -> Result<(), NoMemory>
+        requires room { self.old.cell.applied + length entries.now < 2 ^ 64 }
+        requires fit { are_fit entries.now ≡ true }
+        ensures node { OnOk result (self.new ≡ fed contexts.now self.old (applied contexts.now entries.now self.old.cell self.old.requests.wants)) }
+        ensures told { OnOk result (out.new ≡ out.old ++ ((applied contexts.now entries.now self.old.cell self.old.requests.wants).told ++ (answers_due contexts.now self.old (applied contexts.now entries.now self.old.cell self.old.requests.wants)).told)) }
+    {
+        apply_all(contexts, entries, &mut self.cell, &mut self.requests, out)?;
+        let keys = self.requests.due(self.cell.applied)?;
+        answer_all(contexts, &self.cell, &keys, &mut self.requests, out)
+    }
+}

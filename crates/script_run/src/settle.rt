@@ -1,0 +1,226 @@
+ghost use Rattle.std.specs.Prelude.{◌≡◌, ◌<◌, ◌++◌, ◌+◌, ◌^◌, true, OnOk, IfOk};
+ghost use Rattle.std.specs.List.{list_all, list_any};
+ghost use Rattle.run_model.specs.Run.{apply_each, apply_tried, deliver_each, deliver_next, is_busy, is_ripe, is_unsaved, round, second_half, save_each, save_tried, settle, settles, unsettled};
+ghost use Rattle.script_run.specs.Fit.{is_host};
+ghost use Rattle.script_run.specs.World.{world_of};
+
+use crate::world::World;
+use host_ids::NoMemory;
+use run_model::{Limit, Tolds};
+
+/// A settle has at most so many rounds.
+const MOST_ROUNDS: u32 = 64;
+
+impl World {
+    /// The voters of the group, each of which is a host. The only error is want of memory, also after an
+    /// event of the core met it.
+    fn voters(&self) -> Result<Vec<u8>, NoMemory>
+        ensures voters { IfOk result (λ voters. voters.items ≡ (world_of self.now).group.voters) }
+        ensures hosts { IfOk result (λ voters. list_all is_host voters.items ≡ true) }
+    {
+        if self.broken {
+            return Err(NoMemory);
+        }
+        let voters = Vec::from_slice(self.alloc, self.lane.voters())?;
+        Ok(voters)
+    }
+
+    /// Saves where a host has something to save. Answers the limit that was reached before.
+    fn save_tried(
+        &mut self,
+        host: u8,
+        size: usize,
+        out: &mut Tolds,
+    ) -> Result<Option<Limit>, NoMemory>
+        ensures world { OnOk result (world_of self.new ≡ (save_tried host size (world_of self.old)).world) }
+        ensures told { OnOk result (out.new ≡ out.old ++ (save_tried host size (world_of self.old)).told) }
+        ensures full { IfOk result (λ full. full ≡ (save_tried host size (world_of self.old)).full) }
+    {
+        if !self.is_unsaved(host) {
+            return Ok(None);
+        }
+        match self.reached(size) {
+            Some(limit) => Ok(Some(limit)),
+            None => {
+                self.save(host, out)?;
+                Ok(None)
+            }
+        }
+    }
+
+    /// Saves at each of these hosts, in their order. Answers the limit that was reached in it.
+    fn save_each(
+        &mut self,
+        hosts: &[u8],
+        size: usize,
+        out: &mut Tolds,
+    ) -> Result<Option<Limit>, NoMemory>
+        ensures world { OnOk result (world_of self.new ≡ (save_each hosts.now size (world_of self.old)).world) }
+        ensures told { OnOk result (out.new ≡ out.old ++ (save_each hosts.now size (world_of self.old)).told) }
+        ensures full { IfOk result (λ full. full ≡ (save_each hosts.now size (world_of self.old)).full) }
+    {
+        for host in hosts {
+            if let Some(limit) = self.save_tried(*host, size, out)? {
+                return Ok(Some(limit));
+            }
+        }
+        Ok(None)
+    }
+
+    /// The envelope behind the settled number arrives.
+    fn deliver_next(&mut self, out: &mut Tolds) -> Result<(), NoMemory>
+        requires { (world_of self.old).settled + 1 < 2 ^ 64 }
+        ensures world { OnOk result (world_of self.new ≡ (deliver_next (world_of self.old)).world) }
+        ensures told { OnOk result (out.new ≡ out.old ++ (deliver_next (world_of self.old)).told) }
+        ensures settled { OnOk result ((world_of self.new).settled ≡ (world_of self.old).settled + 1) }
+    {
+        self.settled += 1;
+        self.arrive(self.settled, out)
+    }
+
+    /// The envelopes behind the settled number arrive, up to the newest one of now. Answers the limit
+    /// that was reached in it.
+    fn deliver_each(&mut self, size: usize, out: &mut Tolds) -> Result<Option<Limit>, NoMemory>
+        ensures world { OnOk result (world_of self.new ≡ (deliver_each (unsettled (world_of self.old)) size (world_of self.old)).world) }
+        ensures told { OnOk result (out.new ≡ out.old ++ (deliver_each (unsettled (world_of self.old)) size (world_of self.old)).told) }
+        ensures full { IfOk result (λ full. full ≡ (deliver_each (unsettled (world_of self.old)) size (world_of self.old)).full) }
+    {
+        let mut left = self.unsettled();
+        'wire: while left > 0 {
+            if let Some(limit) = self.reached(size) {
+                return Ok(Some(limit));
+            }
+            self.deliver_next(out)?;
+            left -= 1;
+        }
+        Ok(None)
+    }
+
+    /// Applies where an entry of a host is ripe. Answers the limit that was reached before.
+    fn apply_tried(
+        &mut self,
+        host: u8,
+        size: usize,
+        out: &mut Tolds,
+    ) -> Result<Option<Limit>, NoMemory>
+        requires { host < 10 }
+        ensures world { OnOk result (world_of self.new ≡ (apply_tried host size (world_of self.old)).world) }
+        ensures told { OnOk result (out.new ≡ out.old ++ (apply_tried host size (world_of self.old)).told) }
+        ensures full { IfOk result (λ full. full ≡ (apply_tried host size (world_of self.old)).full) }
+    {
+        if !self.is_ripe(host) {
+            return Ok(None);
+        }
+        match self.reached(size) {
+            Some(limit) => Ok(Some(limit)),
+            None => {
+                self.apply(host, 200_000, out)?;
+                Ok(None)
+            }
+        }
+    }
+
+    /// Applies at each of these hosts, in their order. Answers the limit that was reached in it.
+    fn apply_each(
+        &mut self,
+        hosts: &[u8],
+        size: usize,
+        out: &mut Tolds,
+    ) -> Result<Option<Limit>, NoMemory>
+        requires { list_all is_host hosts.now ≡ true }
+        ensures world { OnOk result (world_of self.new ≡ (apply_each hosts.now size (world_of self.old)).world) }
+        ensures told { OnOk result (out.new ≡ out.old ++ (apply_each hosts.now size (world_of self.old)).told) }
+        ensures full { IfOk result (λ full. full ≡ (apply_each hosts.now size (world_of self.old)).full) }
+    {
+        for host in hosts {
+            if let Some(limit) = self.apply_tried(*host, size, out)? {
+                return Ok(Some(limit));
+            }
+        }
+        Ok(None)
+    }
+
+    /// The deliveries and the applies of a round.
+    fn second_half(&mut self, size: usize, out: &mut Tolds) -> Result<Option<Limit>, NoMemory>
+        ensures world { OnOk result (world_of self.new ≡ (second_half size (world_of self.old)).world) }
+        ensures told { OnOk result (out.new ≡ out.old ++ (second_half size (world_of self.old)).told) }
+        ensures full { IfOk result (λ full. full ≡ (second_half size (world_of self.old)).full) }
+    {
+        if let Some(limit) = self.deliver_each(size, out)? {
+            return Ok(Some(limit));
+        }
+        let hosts = self.voters()?;
+        self.apply_each(&hosts, size, out)
+    }
+
+    /// A round of a settle. Answers the limit that was reached in it.
+    fn round(&mut self, size: usize, out: &mut Tolds) -> Result<Option<Limit>, NoMemory>
+        ensures world { OnOk result (world_of self.new ≡ (round size (world_of self.old)).world) }
+        ensures told { OnOk result (out.new ≡ out.old ++ (round size (world_of self.old)).told) }
+        ensures full { IfOk result (λ full. full ≡ (round size (world_of self.old)).full) }
+    {
+        let hosts = self.voters()?;
+        if let Some(limit) = self.save_each(&hosts, size, out)? {
+            return Ok(Some(limit));
+        }
+        self.second_half(size, out)
+    }
+
+    /// Whether a voter has something to save.
+    fn any_unsaved(&self) -> bool
+        ensures { result ≡ list_any (is_unsaved (world_of self.now)) (world_of self.now).group.voters }
+    {
+        self.lane.voters().iter().any(|host| self.is_unsaved(*host))
+    }
+
+    /// Whether an entry of a voter is ripe.
+    fn any_ripe(&self) -> bool
+        ensures { result ≡ list_any (is_ripe (world_of self.now)) (world_of self.now).group.voters }
+    {
+        self.lane.voters().iter().any(|host| self.is_ripe(*host))
+    }
+
+    /// Whether a round has something to do.
+    fn is_busy(&self) -> bool
+        ensures { result ≡ is_busy (world_of self.now) }
+    {
+        if self.any_unsaved() || self.unsettled() > 0 {
+            return true;
+        }
+        self.any_ripe()
+    }
+
+    /// Rounds until one has nothing to do. Answers the limit that was reached in them.
+    fn rounds(&mut self, size: usize, out: &mut Tolds) -> Result<Option<Limit>, NoMemory>
+        ensures world { OnOk result (world_of self.new ≡ (settle 64 size (world_of self.old)).world) }
+        ensures told { OnOk result (out.new ≡ out.old ++ (settle 64 size (world_of self.old)).told) }
+        ensures full { IfOk result (λ full. full ≡ (settle 64 size (world_of self.old)).full) }
+    {
+        let mut left = MOST_ROUNDS;
+        'rounds: while left > 0 {
+            if !self.is_busy() {
+                return Ok(None);
+            }
+            if let Some(limit) = self.round(size, out)? {
+                return Ok(Some(limit));
+            }
+            left -= 1;
+        }
+        Ok(None)
+    }
+
+    /// The line `settle`, where the lines that were read have so many bytes with it. Answers the
+    /// limit that was reached in it.
+    #[tactic(auto, unfolding(run_model::specs::Run::settles))]
+    pub fn settle(&mut self, size: usize, out: &mut Tolds) -> Result<Option<Limit>, NoMemory>
+        ensures world { OnOk result (world_of self.new ≡ (settles size (world_of self.old)).world) }
+        ensures told { OnOk result (out.new ≡ out.old ++ (settles size (world_of self.old)).told) }
+        ensures full { IfOk result (λ full. full ≡ (settles size (world_of self.old)).full) }
+    {
+        if !self.has_group() {
+            self.refuse(2, out)?;
+            return Ok(None);
+        }
+        self.rounds(size, out)
+    }
+}

@@ -1,0 +1,12 @@
+pub mod Growth
+pub mod Common
+pub mod Reigns
+pub mod Hosts
+pub mod Opened
+pub mod Words
+pub mod Tables
+pub mod Levels
+pub mod Release
+pub mod Settle
+pub mod Moves
+pub mod Roles

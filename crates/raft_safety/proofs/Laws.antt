@@ -1,0 +1,11 @@
+pub mod First
+pub mod Owed
+pub mod Cases
+pub mod Events
+pub mod Rows
+pub mod Agreed
+pub mod GoesOn
+pub mod Ahead
+pub mod Seals
+pub mod OneList
+pub mod Runs

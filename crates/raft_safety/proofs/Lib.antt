@@ -1,0 +1,9 @@
+mod Argument
+mod Frame
+mod Elections
+mod Replication
+mod Saving
+mod Crashes
+mod Snapshots
+mod Reading
+mod Laws

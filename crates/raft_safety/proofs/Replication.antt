@@ -1,0 +1,10 @@
+pub mod Sending
+pub mod Extending
+pub mod Laying
+pub mod Taking
+pub mod Committing
+pub mod Append
+pub mod Propose
+pub mod AppendReply
+pub mod Beat
+pub mod OldAnswers

@@ -1,0 +1,4 @@
+pub mod Ready
+pub mod Stored
+pub mod Pending
+pub mod Saved

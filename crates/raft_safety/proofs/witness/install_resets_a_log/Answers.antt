@@ -1,0 +1,42 @@
+use Rattle.std.proofs.Common.{◌≡◌, refl, [], ◌∷◌, ◌++◌, Some, slice_get, true}
+use Rattle.raft_model.specs.Step.{row}
+use Rattle.raft_model.specs.Group.{act, run}
+use Rattle.wire_codec.specs.declared.envelope.Body.TheVariants as kinds
+use Rattle.raft_model.specs.Runs.{post}
+use Rattle.raft_safety.specs.Witness.Few.{AreShown, three, after, log_at, terms}
+use Rattle.raft_safety.specs.Witness.Starts as starts
+use Rattle.raft_safety.proofs.witness.install_resets_a_log.Goals as goal
+
+-- what has to be shown of the events is so
+allowed_shown : AreShown three (starts.overtaken ++ starts.installs)
+unfolding run act row
+allowed_shown = (refl, (record { snapshot = _; inbox = refl; index = refl; term = refl }, tt))
+
+-- host 1 holds an entry of term 1
+before_is : terms (log_at (after starts.overtaken three) 1).entries ≡ 1 ∷ []
+unfolding run act row
+before_is = refl
+
+-- one of term 2 is decided
+decided_is : terms (after starts.overtaken three).decided ≡ 2 ∷ []
+unfolding run act row
+decided_is = refl
+
+-- host 1's log begins at the snapshot
+now_is : log_at (after (starts.overtaken ++ starts.installs) three) 1 ≡ record { front = 1; front_term = 2; entries = [] }
+unfolding run act row
+now_is = refl
+
+-- its answer is the last envelope
+answer_is : slice_get (after (starts.overtaken ++ starts.installs) three).wire 14 ≡ Some (post 1 2 2 (kinds.SnapReply 1 2 true))
+unfolding run act row
+answer_is = refl
+
+pub returns : goal.returns
+returns c = record {
+  allowed = c.few_events_show.ensures three (starts.overtaken ++ starts.installs) allowed_shown;
+  before = before_is;
+  decided = decided_is;
+  now = now_is;
+  answer = answer_is;
+}

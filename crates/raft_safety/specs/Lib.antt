@@ -1,0 +1,11 @@
+pub mod History
+pub mod Replicas
+pub mod Envelopes
+pub mod Invariant
+pub mod Events
+pub mod Agreed
+pub mod OneList
+pub mod Runs
+pub mod ReadFront
+pub mod Rounds
+pub mod Witness

@@ -83,3 +83,9 @@ in_range (v ∷ vs) h e a =
 
 pub host_in : (g : Group) (h : ℕ) → host_refusal g h ≡ None → All (λ v. (1 ≤ v) × (v ≤ 9)) g.voters → (1 ≤ h) × (h ≤ 9)
 host_in g h e a = in_range g.voters h (member g h e) a
+
+-- hosts from 1 on are none of them 0
+pub none_zero : (voters : List ℕ) → All (λ v. (1 ≤ v) × (v ≤ 9)) voters → list_any (λ v. v == 0) voters ≡ false
+none_zero voters a =
+    elim (list_any (λ v. v == 0) voters) as (λ b. list_any (λ v. v == 0) voters ≡ b → b ≡ false)
+    [ true ↦ λ e. absurd (let x = in_range voters 0 e a in omega (arith, x.0)) | false ↦ λ e. refl ] refl

@@ -7,6 +7,10 @@ ghost use Rattle.raft_model.specs.Replica.{is_changed, ripe};
 ghost use Rattle.raft_model.specs.Saving.{is_stuck};
 ghost use Rattle.raft_model.specs.Group.{act, fresh_group, replica_at, envelope_at, is_member};
 ghost use Rattle.raft_model.specs.declared.event.LaneFault.TheVariants as faults;
+ghost use Rattle.raft_safety.specs.OneList.{IsOneList};
+ghost use Rattle.raft_safety.specs.ReadFront.{AreFronted};
+ghost use Rattle.raft_safety.specs.Runs.{HasRun};
+ghost use Rattle.raft_safety.specs.Events.{IsAllowed};
 ghost use Rattle.group_world.specs.World.{group_of, Sound};
 ghost use Rattle.group_world.specs.Events.{refusal_of, IsGiven};
 
@@ -17,6 +21,7 @@ use crate::refusals::{envelope_of, refusal, some_replica};
 use crate::world::World;
 use host_ids::{Batch, Entries, NoMemory};
 use raft_core::{LaneEvent, LaneFault, Note, Role};
+use raft_safety::{runs_as_one, runs_go_on};
 use std::alloc::Global;
 use std::marker::Model;
 use wire_codec::Envelope;
@@ -24,26 +29,30 @@ use wire_codec::Envelope;
 /// A group as one value: its replicas, which of them are up, the wire with every envelope ever sent,
 /// what each replica has saved, and the one decided list.
 ///
-/// Clauses see it as the group of the definitions. After want of memory a lane is only to be dropped:
-/// `act` answers want of memory to all that it doesn't refuse from then on, and so does `entries`.
+/// Clauses see it as the group of the definitions. While no event was a start or one of a snapshot,
+/// it keeps that a list of allowed events led to it from a group that has just begun (`has_run`): what
+/// holds after every such list holds of it. A lane that was out of memory once is of no more use: `act`
+/// answers that to all that it doesn't refuse from then on, and so does `entries`.
 /// Source: dissertation chapter 3; the wire that keeps every envelope, what is saved when, and the
 /// refusals are this project's own.
 #[derive(Drop)]
 pub struct Lane {
     world: World,
     broken: bool,
+    plain: bool,
 }
 
 impl Model for Lane {
-    ghost use Rattle.std.specs.Prelude.{◌≡◌, false};
+    ghost use Rattle.std.specs.Prelude.{◌≡◌, true, false};
     ghost use Rattle.raft_model.specs.Group.{Group};
+    ghost use Rattle.raft_safety.specs.Runs.{HasRun};
     ghost use Rattle.group_world.specs.World.{group_of, Sound};
 
     ghost Value = { Group };
 
     ghost view = { λ l. group_of l.world };
 
-    ghost invariant = { λ l. l.broken ≡ false → Sound l.world };
+    ghost invariant = { λ l. l.broken ≡ false → Sound l.world × (l.plain ≡ true → HasRun (group_of l.world)) };
 }
 
 impl Lane {
@@ -52,13 +61,19 @@ impl Lane {
     /// It is refused exactly where the host is none of the voters (`NotMember`); where it is down, for
     /// `Deliver` the one that the envelope is for (`IsDown`); where no envelope has the number
     /// (`NoEnvelope`); where another batch is pending than the one that was saved, or none
-    /// (`NotPending`); where a log is to be cut behind the ripe index (`NotRipe`). Refusals come in
+    /// (`NotPending`); where a log is to be cut after the ripe index (`NotRipe`). Refusals come in
     /// the order of the definitions, and a refused event changes nothing. The only other error is
-    /// want of memory; then the lane is only to be dropped.
+    /// `NoMemory`; then the lane is of no more use.
     ///
     /// A proposal's client is at least 1, its series 1 to 2^64-3 and its responded value at most
     /// 2^64-3. A piece's term and index are at most 2^62, its number and its count below 2^32-1. An
     /// Installed has the index of the received snapshot. A host can't be started again yet.
+    ///
+    /// Where a list of allowed events led to the lane, and this one is allowed too, no two hosts lead a
+    /// term, one before the event and one after it; the decided list goes on; and what any replica had
+    /// committed before, or has now, is of that list (`safe`). Each read that the event notes as confirmed
+    /// has an index that is at least the length of the decided list when a read with its key was first
+    /// asked (`fronts`).
     pub fn act(&mut self, event: LaneEvent) -> Result<Vec<Note>, LaneFault>
         requires given { IsGiven self.old event }
         ensures refused { IfSome (act event self.old).refused (λ fault. result ≡ Err fault) }
@@ -66,6 +81,8 @@ impl Lane {
         ensures memory { (act event self.old).refused ≡ None → IfErr result (λ fault. fault ≡ faults.NoMemory) }
         ensures group { OnOk result (self.new ≡ (act event self.old).group) }
         ensures notes { IfOk result (λ notes. notes.items ≡ (act event self.old).notes) }
+        ensures safe { HasRun self.old → IsAllowed self.old event → OnOk result (IsOneList self.old self.new) }
+        ensures fronts { HasRun self.old → IsAllowed self.old event → IfOk result (λ notes. AreFronted self.new.asks notes.items) }
     {
         if let Some(fault) = refused(&self.world, &event) {
             return Err(fault);
@@ -74,6 +91,9 @@ impl Lane {
             return Err(LaneFault::NoMemory);
         }
         self.broken = true;
+        runs_go_on();
+        runs_as_one();
+        self.plain = self.plain && is_allowed(&self.world, &event);
         match act_on(&mut self.world, event) {
             Ok(notes) => {
                 self.broken = false;
@@ -84,15 +104,18 @@ impl Lane {
     }
 
     /// The group, 1 to 64, of these voters, which has just begun: they are 1 to 7 hosts, ascending,
-    /// each 1 to 9. All are up. The only error is want of memory.
+    /// each 1 to 9. All are up. The only error is `NoMemory`.
     pub fn new(alloc: Global, group: u8, voters: &[u8]) -> Result<Lane, NoMemory>
         requires few { length voters.now ≤ 7 }
         requires hosts { All (λ v. (1 ≤ v) × (v ≤ 9)) voters.now }
         ensures { IfOk result (λ lane. lane ≡ fresh_group group voters.now) }
     {
+        runs_go_on();
+        have_no_zero(group, voters);
         Ok(Lane {
             world: begin(alloc, group, voters)?,
             broken: false,
+            plain: true,
         })
     }
 
@@ -118,7 +141,7 @@ impl Lane {
     }
 
     /// The decided list's entries from `index`, at least 1, on, at most `most` of them. It takes as
-    /// long as what it copies. The only error is want of memory.
+    /// long as what it copies. The only error is `NoMemory`.
     pub fn decided_from(&self, index: u64, most: u64) -> Result<Entries, NoMemory>
         requires from { 1 ≤ index }
         ensures { IfOk result (λ entries. entries ≡ take most (drop (index - 1) self.now.decided)) }
@@ -221,7 +244,7 @@ impl Lane {
     /// The entries of the log of a host, a voter, from `first` on, at most `most` of them; `first`
     /// lies from front + 1 to last + 1. Of each entry's proposal the client is at least 1, the series 1
     /// to 2^64-3 and the responded value at most 2^64-3, where it has them. It takes as long as what
-    /// it copies. The only error is want of memory.
+    /// it copies. The only error is `NoMemory`.
     pub fn entries(&self, host: u8, first: u64, most: u64) -> Result<Entries, NoMemory>
         requires behind { (replica_at self.now host).log.front < first }
         requires within { first ≤ last (replica_at self.now host).log + 1 }
@@ -238,6 +261,14 @@ impl Lane {
         }
     }
 
+    /// Whether a list of allowed events led to the lane from a group that has just begun, as far as the
+    /// lane knows: no event so far was a start or one of a snapshot, and it never was out of memory.
+    pub fn has_run(&self) -> bool
+        ensures { result ≡ true → HasRun self.now }
+    {
+        self.plain && !self.broken
+    }
+
     /// Whether all events so far were ones that honest disks may lead to. It is true: the one event
     /// that may not be so, a start from what a crash left, isn't built yet.
     pub fn faithful(&self) -> bool
@@ -246,6 +277,31 @@ impl Lane {
         true
     }
 }
+
+/// Whether an event is known to be allowed: so is every one but a start and those of a snapshot, which are
+/// allowed in some groups and not in others.
+fn is_allowed(w: &World, event: &LaneEvent) -> bool
+    ensures { result ≡ true → IsAllowed (group_of w.now) event.now }
+{
+    matches!(
+        event,
+        LaneEvent::Timeout { .. }
+            | LaneEvent::Beat { .. }
+            | LaneEvent::Deliver { .. }
+            | LaneEvent::Ready { .. }
+            | LaneEvent::Saved { .. }
+            | LaneEvent::Propose { .. }
+            | LaneEvent::Ask { .. }
+            | LaneEvent::Compact { .. }
+            | LaneEvent::Down { .. }
+    )
+}
+
+/// A group of hosts from 1 on has no voter 0.
+fn have_no_zero(group: u8, voters: &[u8])
+    requires hosts { All (λ v. (1 ≤ v) × (v ≤ 9)) voters.now }
+    ensures { is_member (fresh_group group voters.now) 0 ≡ false }
+{}
 
 /// The numbers of the proposals in a replica's log are in their ranges.
 fn have_fit_numbers(w: &World, host: u8, first: u64, most: u64)

@@ -1,159 +1,201 @@
--- A step from a world whose group has one voter and that agrees with a desk, where the desk moves with it; an event at the voter is such a step.
-use Rattle.std.proofs.Common.{◌≡◌, ℕ, ◌-◌, ◌≤◌, ◌<◌, List, [], ◌∷◌, Bool, true, false, Option, Some, None, cond, length, take, drop, min, refl, sym, ap, subst, inl, arith}
-use Rattle.std.specs.Prelude.{is_some}
-use Rattle.std.specs.List.{flat_map}
+-- A step from a world that a desk fits, where the desk moves with it: the events of a host's replica, and its applies.
+use Rattle.std.proofs.Common.{◌≡◌, ℕ, ◌-◌, ◌≤◌, ◌<◌, ◌==◌, List, [], ◌∷◌, Bool, true, false, Option, Some, None, cond, length, take, drop, min, refl, sym, ap, ◌∙◌, subst, arith, eqb-true}
+use Rattle.std.specs.Prelude.{is_some, ◌||◌}
+use Rattle.std.specs.List.{AllByRecursion, list_any}
 use Rattle.std.proofs.lemmas.Bool.{cond_both}
-use Rattle.std.proofs.lemmas.List.{get_or-set_same, length-set}
+use Rattle.std.proofs.lemmas.List.{length-set}
+use Rattle.std.proofs.lemmas.List.Elements.{All-from_recursion, recursion_from_All, All-contains}
 use Rattle.host_ids.specs.declared.entry.Batch.{Batch}
+use Rattle.host_ids.specs.declared.entry.Key.{Key}
 use Rattle.host_ids.specs.declared.entry.Entry.{Entry}
+use Rattle.host_ids.specs.declared.proposal.Proposal.{Proposal}
 use Rattle.host_ids.specs.declared.proposal.Proposal.TheVariants as proposals
-use Rattle.object_model.specs.Desk.{Request, Desk, Grows, Moves, MovesJoin}
+use Rattle.object_model.specs.Desk.{Desk, Grows, Moves, MovesJoin}
 use Rattle.raft_model.specs.declared.event.LaneEvent.{LaneEvent}
 use Rattle.raft_model.specs.declared.event.LaneEvent.TheVariants as inputs
-use Rattle.raft_model.specs.declared.note.Note.{Note}
-use Rattle.raft_model.specs.declared.note.Note.TheVariants as notes
 use Rattle.raft_model.specs.declared.state.State.{State as Replica}
-use Rattle.raft_model.specs.Replica.{no_key, ripe}
-use Rattle.raft_model.specs.Group.{Acted, act, replica_at}
+use Rattle.raft_model.specs.Replica.{ripe, no_key}
+use Rattle.raft_model.specs.Group.{Group, act, replica_at, is_member}
 use Rattle.run_model.specs.declared.script.HostEvent.{HostEvent}
 use Rattle.run_model.specs.declared.script.HostEvent.TheVariants as events
 use Rattle.run_model.specs.declared.line.Line.TheVariants as lines
-use Rattle.run_model.specs.World.{World, Node, node_at, new_node, most_sessions}
+use Rattle.run_model.specs.World.{World, Node, node_at}
 use Rattle.run_model.specs.Run
 use Rattle.run_model.specs.Run.{Step, applied, next_entries, event_step}
 use Rattle.run_model.specs.Marks.{marks_of}
-use Rattle.run_law.proofs.Names.{Entered}
+use Rattle.run_law.proofs.Lists.{all_map, all_right}
 use Rattle.run_law.proofs.Giving.{Follows}
-use Rattle.run_law.proofs.Agree.{Sole, Agrees, onward_agrees}
 use Rattle.run_law.proofs.Joining.{growth_moves, nothing_moves}
-use Rattle.run_law.proofs.Replicas.{Any, Onward}
-use Rattle.run_law.proofs.Groups.{Lone, Onto, timeout_onto, beat_onto, ready_onto, saved_onto}
-use Rattle.run_law.proofs.Feeding.{given, feeds}
+use Rattle.run_law.proofs.Notes.{notes_marks}
+use Rattle.run_law.proofs.Voters.{act_stay}
+use Rattle.run_law.proofs.Book.{Book, IsNamed, Named}
+use Rattle.run_law.proofs.Fits.{Fits, grown_fits}
+use Rattle.run_law.proofs.Feeding.{given, feeds, next_same}
+use Rattle.run_law.proofs.Growth.{Longer, act_lasts}
+use Rattle.run_law.proofs.Laws.{IsPlain, Given, IsGiven, Proposes, GroupLaw}
 
--- what a host knows and holds
-abbrev pub seen : Replica → Node → List (List (List ℕ)) → Sole
-seen r n contexts = record { log = r.log.entries; commit = r.commit; cell = n.cell; requests = n.requests; contexts = contexts }
+-- a voter is one of the numbers of hosts
+pub few_member : (vs : List ℕ) (h : ℕ) → AllByRecursion (λ v. v < 10) vs → list_any (λ v. v == h) vs ≡ true → h < 10
+few_member [] h p e = absurd cc
+few_member (v ∷ vs) h p e = by_first (v == h) refl e (few_member vs h p.1) where
+  by_first : (b : Bool) → (v == h) ≡ b → (b || list_any (λ u. u == h) vs) ≡ true → (list_any (λ u. u == h) vs ≡ true → h < 10) → h < 10
+  by_first true q f k = subst (λ (n : ℕ). n < 10) (eqb-true v h q) p.0
+  by_first false q f k = k f
 
-abbrev pub seen_at : ℕ → World → Sole
-seen_at h w = seen (replica_at w.group h) (node_at w h) w.contexts
+-- what is given is named
+pub given_named : (book : Book) (given : Given) → AllByRecursion (λ x. IsNamed book x.0 x.1) given → (key : Key) (p : Proposal) → IsGiven given key p → IsNamed book key p
+given_named book given all key p c = All-contains (λ (x : Key × Proposal). IsNamed book x.0 x.1) given (key, p) (All-from_recursion (λ (x : Key × Proposal). IsNamed book x.0 x.1) given all) c
 
--- a world whose group has this host as its one voter, and a desk that agrees with it
-pub record Alone (h limit : ℕ) (w : World) (d : Desk) : Type 0 where
-  pub lone : Lone h w.group
-  pub nodes : h < length w.nodes
-  pub limit_is : w.limit ≡ limit
-  pub agrees : Agrees h limit (seen_at h w) d
+module _ (Kept : Group → Type 0) (Carries : Given → Group → Type 0) where
+  -- a world after the line that declares its group, and a desk that fits
+  pub record Runs (limit : ℕ) (w : World) (d : Desk) : Type 0 where
+    pub book : Book
+    pub limit_is : w.limit ≡ limit
+    pub contexts : length w.contexts ≡ 10
+    pub nodes : length w.nodes ≡ 10
+    pub voters : AllByRecursion (λ v. v < 10) w.group.voters
+    pub kept : Kept w.group
+    pub given : Given
+    pub blank : IsGiven given no_key proposals.Blank
+    pub named : AllByRecursion (λ x. IsNamed book x.0 x.1) given
+    pub carries : Carries given w.group
+    pub fits : Fits limit book w.group.decided w.nodes w.contexts d
 
-pub record Goes (h limit : ℕ) (d : Desk) (s : Step) : Type 0 where
-  pub desk : Desk
-  pub alone : Alone h limit s.world desk
-  pub moves : Moves limit d (marks_of 1 s.told) desk
+  pub record Goes (limit : ℕ) (d : Desk) (s : Step) : Type 0 where
+    pub desk : Desk
+    pub runs : Runs limit s.world desk
+    pub moves : Moves limit d (marks_of 1 s.told) desk
 
-pub by_cond : (h limit : ℕ) (d : Desk) (b : Bool) (x y : Step) → (b ≡ true → Goes h limit d x) → (b ≡ false → Goes h limit d y) → Goes h limit d (cond b x y)
-by_cond h limit d b x y p q = cond_both b x y (Goes h limit d) p q
+  pub by_cond : (limit : ℕ) (d : Desk) (b : Bool) (x y : Step) → (b ≡ true → Goes limit d x) → (b ≡ false → Goes limit d y) → Goes limit d (cond b x y)
+  by_cond limit d b x y p q = cond_both b x y (Goes limit d) p q
 
--- nothing that a desk knows of
-pub silent : (h limit : ℕ) (d : Desk) (s : Step) → Alone h limit s.world d → marks_of 1 s.told ≡ [] → Goes h limit d s
-silent h limit d s a e = record { desk = d; alone = a; moves = rw e (nothing_moves limit d) }
+  -- nothing that a desk knows of
+  pub silent : (limit : ℕ) (d : Desk) (s : Step) → Runs limit s.world d → marks_of 1 s.told ≡ [] → Goes limit d s
+  silent limit d s a e = record { desk = d; runs = a; moves = rw e (nothing_moves limit d) }
 
--- ---- an event of the core
+  -- a step whose lines say nothing of requests, without its lines
+  untold : (limit : ℕ) (d : Desk) (s : Step) → marks_of 1 s.told ≡ [] → Goes limit d s → Goes limit d (Run.quiet s.world)
+  untold limit d s e g = record { desk = g.desk; runs = g.runs; moves = subst (λ ms. Moves limit d ms g.desk) e g.moves }
 
--- the world after what an event makes of the group, where so many entries were appended
-abbrev pub acted : Acted → ℕ → World → World
-acted a n w = record w { group = a.group; appended = n }
+  -- a step after one that tells nothing
+  joined_goes : (join : MovesJoin) (limit : ℕ) (d : Desk) (w : World) (s : Step) → (g : Goes limit d (Run.quiet w)) → Goes limit g.desk s → Goes limit d s
+  joined_goes join limit d w s g k = record { desk = k.desk; runs = k.runs; moves = join limit d [] (marks_of 1 s.told) g.desk k.desk g.moves k.moves }
 
--- what the core tells of itself says nothing of requests
-pub notes_marks : (g : ℕ) (ns : List Note) → marks_of g (flat_map Run.note_told ns) ≡ []
-notes_marks g [] = refl
-notes_marks g (notes.Leader host term ∷ ns) = notes_marks g ns
-notes_marks g (notes.Pending host id ∷ ns) = notes_marks g ns
-notes_marks g (notes.Idle ∷ ns) = notes_marks g ns
-notes_marks g (notes.Dropped key ∷ ns) = notes_marks g ns
-notes_marks g (notes.Confirmed host key index ∷ ns) = notes_marks g ns
+  module _ (law : GroupLaw Kept Carries) where
+    -- ---- an event of the group
 
--- the desk's list grows with the commit index
-pub replica_agrees : (h limit : ℕ) (r q : Replica) (n : Node) (contexts : List (List (List ℕ))) (d : Desk) → Agrees h limit (seen r n contexts) d → Onward (Entered h d.asked) r q → (e : Desk) × Grows d e × Agrees h limit (seen q n contexts) e
-replica_agrees h limit r q n contexts d a o =
-    onward_agrees h limit (seen r n contexts) d q.log.entries o.more q.commit a o.log o.all o.commit (omega (arith, o.sound.commit, o.sound.stable, o.sound.from))
+    -- the world after an event, where leaders have appended this number of entries
+    abbrev pub acted : LaneEvent → ℕ → World → World
+    acted e n w = record w { group = (act e w.group).group; appended = n }
 
-core_goes : (h limit : ℕ) (w : World) (d : Desk) (e : LaneEvent) → Alone h limit w d → Onto h (Entered h d.asked) Any w.group (act e w.group) → Goes h limit d (Run.core h e w)
-core_goes h limit w d e a o =
-    let k = act e w.group in
-    let g = replica_agrees h limit (replica_at w.group h) (replica_at k.group h) (node_at w h) w.contexts d a.agrees o.onward in
-    record {
-      desk = g.0;
-      alone = record { lone = o.lone; nodes = a.nodes; limit_is = a.limit_is; agrees = g.2 };
-      moves = rw (notes_marks 1 k.notes) (growth_moves limit d g.0 g.1);
-    }
+    pub record Grown (limit : ℕ) (w : World) (d : Desk) : Type 0 where
+      pub desk : Desk
+      pub grows : Grows d desk
+      pub runs : Runs limit w desk
 
-blank_entered : (h : ℕ) (asked : List Request) (e : Entry) → e.key ≡ no_key → e.proposal ≡ proposals.Blank → Entered h asked e
-blank_entered h asked e k p = record { sort = inl (rw k refl, p) }
+    -- the desk's list grows with the group's
+    pub acted_runs : (limit : ℕ) (w : World) (d : Desk) (e : LaneEvent) (n : ℕ) → (a : Runs limit w d) → IsPlain e → Proposes a.given e → Grown limit (acted e n w) d
+    acted_runs limit w d e n a plain q =
+        let g = w.group in
+        let k = (act e g).group in
+        let l : Longer g.decided k.decided = act_lasts e g in
+        let carries : Carries a.given k = law.carried a.given a.blank e plain q g a.carries in
+        let given : AllByRecursion (λ x. IsGiven a.given x.key x.proposal) k.decided = recursion_from_All (λ x. IsGiven a.given x.key x.proposal) k.decided (law.decided a.given k carries) in
+        let all : AllByRecursion (Named a.book) k.decided = all_map (λ x. IsGiven a.given x.key x.proposal) (Named a.book) k.decided
+        (λ x s. record { sort = given_named a.book a.given a.named x.key x.proposal s }) given in
+        let more : AllByRecursion (Named a.book) l.more = all_right (Named a.book) g.decided l.more (subst (λ (es : List Entry). AllByRecursion (Named a.book) es) l.is all) in
+        let f = grown_fits limit a.book g.decided l.more w.nodes w.contexts d a.fits more in
+        record {
+          desk = f.0;
+          grows = f.1;
+          runs = record {
+            book = a.book;
+            limit_is = a.limit_is;
+            contexts = a.contexts;
+            nodes = a.nodes;
+            voters = subst (λ (vs : List ℕ). AllByRecursion (λ v. v < 10) vs) (sym (act_stay e g)) a.voters;
+            kept = law.stays e plain g a.kept;
+            given = a.given;
+            blank = a.blank;
+            named = a.named;
+            carries = carries;
+            fits = subst (λ (es : List Entry). Fits limit a.book es w.nodes w.contexts f.0) (sym l.is) f.2;
+          };
+        }
 
--- a step whose lines say nothing of requests, without its lines
-untold : (h limit : ℕ) (d : Desk) (s : Step) → marks_of 1 s.told ≡ [] → Goes h limit d s → Goes h limit d (Run.quiet s.world)
-untold h limit d s e g = record { desk = g.desk; alone = g.alone; moves = subst (λ ms. Moves limit d ms g.desk) e g.moves }
+    pub core_goes : (limit : ℕ) (w : World) (d : Desk) (h : ℕ) (e : LaneEvent) → (a : Runs limit w d) → IsPlain e → Proposes a.given e → Goes limit d (Run.core h e w)
+    core_goes limit w d h e a plain q =
+        let g = acted_runs limit w d e (Run.moved h e w).appended a plain q in
+        record { desk = g.desk; runs = g.runs; moves = rw (notes_marks 1 (act e w.group).notes) (growth_moves limit d g.desk g.grows) }
 
--- a step behind one that tells nothing
-joined_goes : (join : MovesJoin) (h limit : ℕ) (d : Desk) (w : World) (s : Step) → (g : Goes h limit d (Run.quiet w)) → Goes h limit g.desk s → Goes h limit d s
-joined_goes join h limit d w s g k = record { desk = k.desk; alone = k.alone; moves = join limit d [] (marks_of 1 s.told) g.desk k.desk g.moves k.moves }
+    taken_goes : (limit : ℕ) (w : World) (d : Desk) (h : ℕ) → Runs limit w d → Goes limit d (Run.quiet (Run.taken h w))
+    taken_goes limit w d h a =
+        cond_both (is_some (Run.pending_at w h)) w (Run.moved h (inputs.Ready h) w) (λ (v : World). Goes limit d (Run.quiet v))
+        (λ _. silent limit d (Run.quiet w) a refl)
+        (λ _. untold limit d (Run.core h (inputs.Ready h) w) (notes_marks 1 (act (inputs.Ready h) w.group).notes) (core_goes limit w d h (inputs.Ready h) a tt tt))
 
-taken_goes : (h limit : ℕ) (w : World) (d : Desk) → Alone h limit w d → Goes h limit d (Run.quiet (Run.taken h w))
-taken_goes h limit w d a =
-    cond_both (is_some (Run.pending_at w h)) w (Run.moved h (inputs.Ready h) w) (λ (v : World). Goes h limit d (Run.quiet v))
-    (λ _. silent h limit d (Run.quiet w) a refl)
-    (λ _. untold h limit d (Run.core h (inputs.Ready h) w) (notes_marks 1 (act (inputs.Ready h) w.group).notes) (core_goes h limit w d (inputs.Ready h) a (ready_onto h (Entered h d.asked) w.group a.lone)))
+    handed_goes : (limit : ℕ) (w : World) (d : Desk) (h : ℕ) (o : Option Batch) → Runs limit w d → Goes limit d (Run.handed_back h o w)
+    handed_goes limit w d h None a = silent limit d (Run.tells w lines.Idle) a refl
+    handed_goes limit w d h (Some b) a = core_goes limit w d h (inputs.Saved h b.id) a tt tt
 
-handed_goes : (h limit : ℕ) (w : World) (d : Desk) (o : Option Batch) → Alone h limit w d → Goes h limit d (Run.handed_back h o w)
-handed_goes h limit w d None a = silent h limit d (Run.tells w lines.Idle) a refl
-handed_goes h limit w d (Some b) a = core_goes h limit w d (inputs.Saved h b.id) a (saved_onto h b.id (Entered h d.asked) w.group a.lone (λ e k p. blank_entered h d.asked e k p))
+    save_goes : (limit : ℕ) (w : World) (d : Desk) (h : ℕ) → MovesJoin → Runs limit w d → Goes limit d (Run.save h w)
+    save_goes limit w d h join a =
+        let v = Run.taken h w in
+        let g = taken_goes limit w d h a in
+        joined_goes join limit d v (Run.save h w) g (handed_goes limit v g.desk h (Run.pending_at v h) g.runs)
 
-save_goes : (h limit : ℕ) (w : World) (d : Desk) → MovesJoin → Alone h limit w d → Goes h limit d (Run.save h w)
-save_goes h limit w d join a =
-    let v = Run.taken h w in
-    let g = taken_goes h limit w d a in
-    joined_goes join h limit d v (Run.save h w) g (handed_goes h limit v g.desk (Run.pending_at v h) g.alone)
+    -- ---- an apply
 
--- ---- an apply
+    -- what a replica gives next is what the list has next
+    next_is : (decided : List Entry) (r : Replica) (n : Node) (most : ℕ) → r.log.front ≡ 0 → take r.commit r.log.entries ≡ take r.commit decided
+        → take (min most (ripe r - n.cell.applied)) (drop n.cell.applied decided) ≡ next_entries r n.cell most
+    next_is decided r n most z e =
+        let k = min most (ripe r - n.cell.applied) in
+        let few : k ≤ r.commit - n.cell.applied = omega arith in
+        let at : n.cell.applied ≡ n.cell.applied - r.log.front = omega (arith, z) in
+        sym (next_same r.log.entries decided r.commit n.cell.applied k e few) ∙ ap (λ (i : ℕ). take k (drop i r.log.entries)) at
 
--- the host's node becomes another
-pub node_alone : (h limit : ℕ) (w : World) (n : Node) (d : Desk) → Lone h w.group → h < length w.nodes → w.limit ≡ limit → Agrees h limit (seen (replica_at w.group h) n w.contexts) d → Alone h limit (Run.with_node h n w) d
-node_alone h limit w n d l room e a = record {
-  lone = l;
-  nodes = rw length-set room;
-  limit_is = e;
-  agrees = subst (λ (x : Node). Agrees h limit (seen (replica_at w.group h) x w.contexts) d) (sym (get_or-set_same w.nodes h n (new_node most_sessions) room)) a;
-}
+    applies_goes : (laws : Follows) (limit : ℕ) (w : World) (d : Desk) (h most : ℕ) → MovesJoin → h < 10 → Runs limit w d
+        → Goes limit d (Run.applies h (node_at w h) (applied w.contexts (next_entries (replica_at w.group h) (node_at w h).cell most) (node_at w h).cell (node_at w h).requests.wants) w)
+    applies_goes laws limit w d h most join few a =
+        let r = replica_at w.group h in
+        let n = node_at w h in
+        let k = min most (ripe r - n.cell.applied) in
+        let room : h < length w.nodes = rw a.nodes few in
+        let f = feeds laws h limit k a.book w.group.decided w.nodes w.contexts d join room a.fits in
+        let b = given k w.group.decided w.contexts n in
+        let front = law.agrees w.group a.kept h in
+        let g : Goes limit d (Run.applies h n b w) = record {
+          desk = f.desk;
+          runs = record {
+            book = a.book;
+            limit_is = a.limit_is;
+            contexts = a.contexts;
+            nodes = rw length-set a.nodes;
+            voters = a.voters;
+            kept = a.kept;
+            given = a.given;
+            blank = a.blank;
+            named = a.named;
+            carries = a.carries;
+            fits = f.fits;
+          };
+          moves = f.moves;
+        } in
+        subst (λ (es : List Entry). Goes limit d (Run.applies h n (applied w.contexts es n.cell n.requests.wants) w)) (next_is w.group.decided r n most front.front front.same) g
 
-next_is : (r : Replica) (n : Node) (most : ℕ) → r.log.front ≡ 0 → take (min most (ripe r - n.cell.applied)) (drop n.cell.applied r.log.entries) ≡ next_entries r n.cell most
-next_is r n most z = let e : n.cell.applied ≡ n.cell.applied - r.log.front = omega (arith, z) in ap (λ (i : ℕ). take (min most (ripe r - n.cell.applied)) (drop i r.log.entries)) e
+    apply_goes : (laws : Follows) (limit : ℕ) (w : World) (d : Desk) (h most : ℕ) → MovesJoin → h < 10 → Runs limit w d → Goes limit d (Run.apply h most w)
+    apply_goes laws limit w d h most join few a =
+        let n = node_at w h in
+        by_cond limit d (Run.is_ripe w h) (Run.applies h n (applied w.contexts (next_entries (replica_at w.group h) n.cell most) n.cell n.requests.wants) w) (Run.tells w lines.Idle)
+        (λ _. applies_goes laws limit w d h most join few a)
+        (λ _. silent limit d (Run.tells w lines.Idle) a refl)
 
-applies_goes : (laws : Follows) (h limit : ℕ) (w : World) (d : Desk) (most : ℕ) → MovesJoin → Alone h limit w d
-    → Goes h limit d (Run.applies h (node_at w h) (applied w.contexts (next_entries (replica_at w.group h) (node_at w h).cell most) (node_at w h).cell (node_at w h).requests.wants) w)
-applies_goes laws h limit w d most join a =
-    let r = replica_at w.group h in
-    let n = node_at w h in
-    let k = min most (ripe r - n.cell.applied) in
-    let few : k ≤ r.commit - n.cell.applied = omega arith in
-    let f = feeds laws h limit k (seen_at h w) d join a.agrees few in
-    let b = given k (seen_at h w) in
-    let g : Goes h limit d (Run.applies h n b w) = record {
-      desk = f.desk;
-      alone = node_alone h limit w (Run.fed w.contexts n b) f.desk a.lone a.nodes a.limit_is f.agrees;
-      moves = f.moves;
-    } in
-    subst (λ (es : List Entry). Goes h limit d (Run.applies h n (applied w.contexts es n.cell n.requests.wants) w)) (next_is r n most a.lone.sound.front) g
-
-apply_goes : (laws : Follows) (h limit : ℕ) (w : World) (d : Desk) (most : ℕ) → MovesJoin → Alone h limit w d → Goes h limit d (Run.apply h most w)
-apply_goes laws h limit w d most join a =
-    let n = node_at w h in
-    by_cond h limit d (Run.is_ripe w h) (Run.applies h n (applied w.contexts (next_entries (replica_at w.group h) n.cell most) n.cell n.requests.wants) w) (Run.tells w lines.Idle)
-    (λ _. applies_goes laws h limit w d most join a)
-    (λ _. silent h limit d (Run.tells w lines.Idle) a refl)
-
-pub event_goes : (laws : Follows) (h limit : ℕ) (w : World) (d : Desk) (event : HostEvent) → MovesJoin → Alone h limit w d → Goes h limit d (Run.event_step h event w)
-unfolding event_step
-event_goes laws h limit w d (events.Timeout group) join a = core_goes h limit w d (inputs.Timeout h) a (timeout_onto h (Entered h d.asked) w.group a.lone)
-event_goes laws h limit w d (events.Beat group) join a = core_goes h limit w d (inputs.Beat h) a (beat_onto h (Entered h d.asked) w.group a.lone)
-event_goes laws h limit w d (events.Ready group) join a = core_goes h limit w d (inputs.Ready h) a (ready_onto h (Entered h d.asked) w.group a.lone)
-event_goes laws h limit w d (events.Save group) join a = save_goes h limit w d join a
-event_goes laws h limit w d (events.Apply group most) join a = apply_goes laws h limit w d most join a
+    pub event_goes : (laws : Follows) (limit : ℕ) (w : World) (d : Desk) (h : ℕ) (event : HostEvent) → MovesJoin → is_member w.group h ≡ true → Runs limit w d
+        → Goes limit d (Run.event_step h event w)
+    unfolding event_step
+    event_goes laws limit w d h (events.Timeout group) join m a = core_goes limit w d h (inputs.Timeout h) a tt tt
+    event_goes laws limit w d h (events.Beat group) join m a = core_goes limit w d h (inputs.Beat h) a tt tt
+    event_goes laws limit w d h (events.Ready group) join m a = core_goes limit w d h (inputs.Ready h) a tt tt
+    event_goes laws limit w d h (events.Save group) join m a = save_goes limit w d h join a
+    event_goes laws limit w d h (events.Apply group most) join m a = apply_goes laws limit w d h most join (few_member w.group.voters h a.voters m) a

@@ -22,9 +22,9 @@ use Rattle.run_model.specs.Run
 use Rattle.run_model.specs.Run.{Step, applied, answered, event_step, proposes, read_asked, grouped}
 use Rattle.run_model.specs.Marks.{marks_of}
 use Rattle.run_law.proofs.Joining.{marks_of-append}
-use Rattle.run_law.proofs.Going.{notes_marks}
+use Rattle.run_law.proofs.Notes.{notes_marks}
 use Rattle.run_law.proofs.Turns.{Between, IsDone}
-use Rattle.run_law.proofs.Phases.{outcome_done}
+use Rattle.run_law.proofs.Phases.{AnyRoster, outcome_done}
 
 -- the group isn't 1
 pub record IsOther (g : ℕ) : Type 0 where
@@ -39,7 +39,8 @@ both_silent g a b p q = rw (marks_of-append, p, q) refl
 
 -- ---- an apply
 
-ended_silent : (g : ℕ) (contexts : List (List (List ℕ))) (key : Key) (place : ℕ) (ending : Ending) (o : Option Want) → IsOther g → IsSilent g (Run.ended o contexts key (lines.Ended key 1 place ending))
+ended_silent : (g : ℕ) (contexts : List (List (List ℕ))) (key : Key) (place : ℕ) (ending : Ending) (o : Option Want) → IsOther g
+    → IsSilent g (Run.ended o contexts key (lines.Ended key 1 place ending))
 ended_silent g contexts key place ending None n = refl
 ended_silent g contexts key place ending (Some want) n = rw n.differs refl
 
@@ -52,7 +53,8 @@ unfolding applied
 applied_silent g contexts [] c ws n = refl
 applied_silent g contexts (e ∷ es) c ws n =
     let first = Run.applied_by contexts e.proposal e.key c ws in
-    both_silent g first.told (applied contexts es first.cell first.wants).told (one_silent g contexts e.key (Run.given e.proposal c) ws (Run.ending_of e.proposal c) n) (applied_silent g contexts es first.cell first.wants n)
+    both_silent g first.told (applied contexts es first.cell first.wants).told (one_silent g contexts e.key (Run.given e.proposal c) ws (Run.ending_of e.proposal c) n)
+    (applied_silent g contexts es first.cell first.wants n)
 
 answer_silent : (g : ℕ) (contexts : List (List (List ℕ))) (c : Cell) (key : Key) (o : Option Want) → IsOther g → IsSilent g (Run.answer_told contexts c key o)
 answer_silent g contexts c key None n = refl
@@ -63,7 +65,8 @@ answered_silent : (g : ℕ) (contexts : List (List (List ℕ))) (c : Cell) (keys
 unfolding answered
 answered_silent g contexts c [] ws n = refl
 answered_silent g contexts c (key ∷ keys) ws n =
-    both_silent g (Run.answer_told contexts c key (Run.want_of key ws)) (answered contexts c keys (Run.without key ws)).told (answer_silent g contexts c key (Run.want_of key ws) n) (answered_silent g contexts c keys (Run.without key ws) n)
+    both_silent g (Run.answer_told contexts c key (Run.want_of key ws)) (answered contexts c keys (Run.without key ws)).told (answer_silent g contexts c key (Run.want_of key ws) n)
+    (answered_silent g contexts c keys (Run.without key ws) n)
 
 -- ---- each event
 
@@ -110,7 +113,7 @@ reads_silent g h w context query n =
 abbrev Says : ℕ → Between
 Says g w told v = IsSilent g told
 
-silence_done : (g : ℕ) → IsOther g → IsDone (Says g)
+silence_done : (g : ℕ) → IsOther g → IsDone (Says g) AnyRoster
 unfolding grouped
 silence_done g n = record {
   nothing = λ w. refl;
@@ -119,11 +122,11 @@ silence_done g n = record {
   declared = λ w hosts. refl;
   clients = λ w clients. refl;
   settled = λ w number. refl;
-  grouped = λ w roster limit e k l. refl;
+  grouped = λ w roster limit e k l m. refl;
   event = λ w host event member. event_silent g host w event n;
   deliver = λ w e number is. core_silent g e.to (inputs.Deliver number) w;
   propose = λ w host context p member unused. proposes_silent g host w context p n;
-  read = λ w host context query member unused. reads_silent g host w context query n;
+  read = λ w host context query member unused few. reads_silent g host w context query n;
 }
 
 entries_silent : (g : ℕ) (w : World) (es : List Entry) → IsOther g → IsSilent g (map (Run.entry_told w) es)

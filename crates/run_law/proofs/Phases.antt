@@ -1,19 +1,113 @@
 -- What each step does is done by a whole run.
-use Rattle.std.proofs.Common.{ℕ, ◌+◌, List, [], ◌∷◌, Option, Some, None, length, append-nil}
-use Rattle.std.proofs.lemmas.Bool.{cond_both}
+use Rattle.std.proofs.Common.{◌≡◌, ◌≤◌, ℕ, ◌+◌, List, [], ◌∷◌, true, Option, Some, None, length, subst, append-nil, arith}
+use Rattle.std.specs.Prelude.{nat_lt}
+use Rattle.std.proofs.lemmas.Bool.{cond_both, ltb-false}
+use Rattle.host_ids.specs.declared.kind.Kind.{Kind}
 use Rattle.run_model.specs.declared.limit.Limit.{Limit}
 use Rattle.run_model.specs.declared.script.ScriptLine.{ScriptLine}
+use Rattle.run_model.specs.declared.script.ScriptLine.TheVariants as script
 use Rattle.run_model.specs.declared.script.Setup.{Setup}
 use Rattle.run_model.specs.declared.script.Setup.TheVariants as setups
 use Rattle.run_model.specs.declared.told.Stop.TheVariants.{Ended}
 use Rattle.run_model.specs.World.{World, start}
-use Rattle.run_model.specs.Script.{read_line, setup_after, is_end, parts_of}
+use Rattle.run_model.specs.Script.{read_line, setup_after, named_group, may_read, is_end, parts_of}
 use Rattle.run_model.specs.Run
-use Rattle.run_model.specs.Run.{Turn, Outcome, turn, run, reached, outcome_of}
+use Rattle.run_model.specs.Run.{Turn, Outcome, grouped, turn, run, reached, outcome_of}
+use Rattle.raft_model.specs.declared.event.LaneEvent.TheVariants as inputs
+use Rattle.run_law.proofs.Voters.{Same, act_stay, event_same, proposes_same, reads_same}
 use Rattle.run_law.proofs.Said.{Said, IsGood, read_said}
 use Rattle.run_law.proofs.Turns.{Between, IsDone, turn_turned}
 
-module _ (P : Between) (h : IsDone P) where
+-- every roster is admitted
+abbrev pub AnyRoster : List ℕ → Type 0
+AnyRoster roster = Unit {0}
+
+-- ---- reads come while no group has more than one voter
+
+-- where reads may be, the group has one voter at most
+abbrev Tallies : Setup → World → Type 0
+Tallies setup w = may_read setup ≡ true → length w.group.voters ≤ 1
+
+-- no more than one voter stay so
+abbrev Keeps : Between
+Keeps w told v = length w.group.voters ≤ 1 → length v.group.voters ≤ 1
+
+same_keeps : (w v : World) → Same w v → length w.group.voters ≤ 1 → length v.group.voters ≤ 1
+same_keeps w v e few = rw e few
+
+keeps_done : IsDone Keeps (λ roster. length roster ≤ 1)
+unfolding grouped
+keeps_done = record {
+  nothing = λ w few. few;
+  next = λ u v w a b p q few. q (p few);
+  mute = λ w line k few. few;
+  declared = λ w hosts few. few;
+  clients = λ w clients few. few;
+  settled = λ w number few. few;
+  grouped = λ w roster limit e k l m few. m;
+  event = λ w host event member few. same_keeps w (Run.event_step host event w).world (event_same host event w) few;
+  deliver = λ w e number is few. same_keeps w (Run.core e.to (inputs.Deliver number) w).world (act_stay (inputs.Deliver number) w.group) few;
+  propose = λ w host context p member unused few. same_keeps w (Run.proposes host context p w).world (proposes_same host context p w) few;
+  read = λ w host context query member unused one few. same_keeps w (Run.read_asked host (Run.next_key w host) context query w).world (reads_same host context query w) few;
+}
+
+-- the roster that a line names
+abbrev roster_of : ScriptLine → List ℕ
+roster_of (script.Group group kind roster limit) = roster
+roster_of script.Skipped = []
+roster_of script.End = []
+roster_of (script.Host host) = []
+roster_of (script.Event host event) = []
+roster_of (script.Deliver group number) = []
+roster_of (script.Ask host group context command) = []
+roster_of (script.Read host group context query) = []
+roster_of (script.Register host group context session client) = []
+roster_of (script.Call host context session command) = []
+roster_of (script.Again host context session) = []
+roster_of (script.Completed session) = []
+roster_of (script.Close host context session) = []
+roster_of (script.Raw host group context client series responded command) = []
+roster_of (script.Settle group) = []
+roster_of (script.Lose group) = []
+roster_of (script.Wire group number) = []
+
+-- a line that leaves the setup
+kept_tallies : (setup : Setup) (said : ScriptLine) (size : ℕ) (w : World) → IsGood setup said
+    → ((number : ℕ) (kind : Kind) (roster : List ℕ) (limit : Option ℕ) → said ≡ script.Group number kind roster limit → length roster ≤ 1) → Tallies setup w
+    → Tallies setup (turn said size w).world
+kept_tallies setup said size w k admits t = λ e. turn_turned Keeps (λ roster. length roster ≤ 1) keeps_done setup said size w k admits t (t e)
+
+named_tallies : (setup : Setup) (number : ℕ) (kind : Kind) (roster : List ℕ) (limit : Option ℕ) (size : ℕ) (w : World) → IsGood setup (script.Group number kind roster limit) → Tallies setup w
+    → Tallies (named_group roster setup) (turn (script.Group number kind roster limit) size w).world
+named_tallies setup number kind roster limit size w k t =
+    cond_both (nat_lt 1 (length roster)) setups.Several setup (λ (s : Setup). Tallies s (turn (script.Group number kind roster limit) size w).world)
+    (λ _. λ e. absurd cc)
+    (λ l. kept_tallies setup (script.Group number kind roster limit) size w k (λ n q others m e. few_by others e (ltb-false 1 (length roster) l)) t)
+  where
+    few_by : (others : List ℕ) → {n : ℕ} {q : Kind} {m : Option ℕ} → script.Group number kind roster limit ≡ script.Group n q others m → length roster ≤ 1 → length others ≤ 1
+    few_by others e l = subst (λ (line : ScriptLine). length (roster_of line) ≤ 1) e l
+
+after_tallies : (setup : Setup) (said : ScriptLine) (size : ℕ) (w : World) → IsGood setup said → Tallies setup w → Tallies (setup_after said setup) (turn said size w).world
+after_tallies setup (script.Group number kind roster limit) size w k t = named_tallies setup number kind roster limit size w k t
+after_tallies setup script.Skipped size w k t = kept_tallies setup script.Skipped size w k (λ n q r m e. absurd cc) t
+after_tallies setup script.End size w k t = kept_tallies setup script.End size w k (λ n q r m e. absurd cc) t
+after_tallies setup (script.Host host) size w k t = kept_tallies setup (script.Host host) size w k (λ n q r m e. absurd cc) t
+after_tallies setup (script.Event host event) size w k t = kept_tallies setup (script.Event host event) size w k (λ n q r m e. absurd cc) t
+after_tallies setup (script.Deliver group number) size w k t = kept_tallies setup (script.Deliver group number) size w k (λ n q r m e. absurd cc) t
+after_tallies setup (script.Ask host group context command) size w k t = kept_tallies setup (script.Ask host group context command) size w k (λ n q r m e. absurd cc) t
+after_tallies setup (script.Read host group context query) size w k t = kept_tallies setup (script.Read host group context query) size w k (λ n q r m e. absurd cc) t
+after_tallies setup (script.Register host group context session client) size w k t = kept_tallies setup (script.Register host group context session client) size w k (λ n q r m e. absurd cc) t
+after_tallies setup (script.Call host context session command) size w k t = kept_tallies setup (script.Call host context session command) size w k (λ n q r m e. absurd cc) t
+after_tallies setup (script.Again host context session) size w k t = kept_tallies setup (script.Again host context session) size w k (λ n q r m e. absurd cc) t
+after_tallies setup (script.Completed session) size w k t = kept_tallies setup (script.Completed session) size w k (λ n q r m e. absurd cc) t
+after_tallies setup (script.Close host context session) size w k t = kept_tallies setup (script.Close host context session) size w k (λ n q r m e. absurd cc) t
+after_tallies setup (script.Raw host group context client series responded command) size w k t = kept_tallies setup (script.Raw host group context client series responded command) size w k
+    (λ n q r m e. absurd cc) t
+after_tallies setup (script.Settle group) size w k t = kept_tallies setup (script.Settle group) size w k (λ n q r m e. absurd cc) t
+after_tallies setup (script.Lose group) size w k t = kept_tallies setup (script.Lose group) size w k (λ n q r m e. absurd cc) t
+after_tallies setup (script.Wire group number) size w k t = kept_tallies setup (script.Wire group number) size w k (λ n q r m e. absurd cc) t
+
+module _ (P : Between) (h : IsDone P AnyRoster) where
   abbrev Runs : World → Outcome → Type 0
   Runs w o = P w o.told o.world
 
@@ -21,25 +115,27 @@ module _ (P : Between) (h : IsDone P) where
   unless_full w next None p = p
   unless_full w next (Some limit) p = h.nothing w
 
-  goes_on : (w : World) (n : ℕ) (said : Option ScriptLine) (more : ScriptLine → Outcome) → Said said → ((line : ScriptLine) → IsGood line → Runs w (more line)) → Runs w (Run.goes_on said more w n)
-  goes_on w n None more k p = h.nothing w
-  goes_on w n (Some line) more k p = cond_both (is_end line) (Run.stops w Ended) (more line) (Runs w) (λ _. h.nothing w) (λ _. p line k)
+  goes_on : (setup : Setup) (w : World) (n : ℕ) (said : Option ScriptLine) (more : ScriptLine → Outcome) → Said setup said → ((line : ScriptLine) → IsGood setup line → Runs w (more line))
+      → Runs w (Run.goes_on said more w n)
+  goes_on setup w n None more k p = h.nothing w
+  goes_on setup w n (Some line) more k p = cond_both (is_end line) (Run.stops w Ended) (more line) (Runs w) (λ _. h.nothing w) (λ _. p line k)
 
-  after_by : (w : World) (t : Turn) (next : World → Outcome) (o : Option Limit) → P w t.told t.world → ((v : World) → Runs v (next v)) → Runs w (Run.after_by o t next)
-  after_by w t next None p q = h.next w t.world (next t.world).world t.told (next t.world).told p (q t.world)
+  after_by : (w : World) (t : Turn) (next : World → Outcome) (o : Option Limit) → P w t.told t.world → Runs t.world (next t.world) → Runs w (Run.after_by o t next)
+  after_by w t next None p q = h.next w t.world (next t.world).world t.told (next t.world).told p q
   after_by w t next (Some limit) p q = rw append-nil p
 
-  run_done : (setup : Setup) (w : World) (n size : ℕ) (parts : List (List ℕ)) → Runs w (run setup w n size parts)
+  run_done : (setup : Setup) (w : World) (n size : ℕ) (parts : List (List ℕ)) → Tallies setup w → Runs w (run setup w n size parts)
   unfolding run
-  run_done setup w n size [] = h.nothing w
-  run_done setup w n size (line ∷ []) = unless_full w _ (reached w size) (h.nothing w)
-  run_done setup w n size (line ∷ next ∷ more) =
+  run_done setup w n size [] t = h.nothing w
+  run_done setup w n size (line ∷ []) t = unless_full w _ (reached w size) (h.nothing w)
+  run_done setup w n size (line ∷ next ∷ more) t =
       let bytes = size + (length line + 1) in
       unless_full w _ (reached w size)
-      (goes_on w n (read_line setup line) _ (read_said setup line)
-      (λ said k. after_by w (turn said bytes w) (λ u. run (setup_after said setup) u (n + 1) bytes (next ∷ more)) (turn said bytes w).full (turn_turned P h said bytes w k)
-      (λ v. run_done (setup_after said setup) v (n + 1) bytes (next ∷ more))))
+      (goes_on setup w n (read_line setup line) _ (read_said setup line)
+      (λ said k. after_by w (turn said bytes w) (λ u. run (setup_after said setup) u (n + 1) bytes (next ∷ more)) (turn said bytes w).full
+      (turn_turned P AnyRoster h setup said bytes w k (λ number kind roster limit e. tt) t)
+      (run_done (setup_after said setup) (turn said bytes w).world (n + 1) bytes (next ∷ more) (after_tallies setup said bytes w k t))))
 
   -- a whole run
   pub outcome_done : (text : List ℕ) → P start (outcome_of text).told (outcome_of text).world
-  outcome_done text = run_done setups.Single start 0 0 (parts_of text)
+  outcome_done text = run_done setups.Single start 0 0 (parts_of text) (λ e. omega arith)

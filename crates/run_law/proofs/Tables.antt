@@ -26,6 +26,16 @@ middle Greater p e = absurd cc
 pub order_serial : (a b : Key) → key_order a b ≡ Equal → a.serial ≡ b.serial
 order_serial a b e = exact_unsigned a.serial b.serial (middle (nat_cmp a.start b.start) _ (middle (nat_cmp a.host b.host) _ e))
 
+-- an order that is equal has an equal first part
+first_part : (o p : Ordering) → ordering_then o p ≡ Equal → o ≡ Equal
+first_part Less p e = absurd cc
+first_part Equal p e = refl
+first_part Greater p e = absurd cc
+
+-- and one host
+pub order_host : (a b : Key) → key_order a b ≡ Equal → a.host ≡ b.host
+order_host a b e = exact_unsigned a.host b.host (first_part (nat_cmp a.host b.host) _ e)
+
 order_at : (o : Ordering) → is_eq o ≡ true → o ≡ Equal
 order_at Less e = absurd cc
 order_at Equal e = refl
@@ -37,20 +47,20 @@ module _ {V : Type 0} where
     pub front : List (Key × V)
     pub back : List (Key × V)
     pub before : es ≡ front ++ back
-    pub behind : fs ≡ front ++ (key, v) ∷ back
+    pub beyond : fs ≡ front ++ (key, v) ∷ back
 
   with_one : (key : Key) (v : V) (e : Key × V) (es fs : List (Key × V)) → With key v es fs → With key v (e ∷ es) (e ∷ fs)
-  with_one key v e es fs w = record { front = e ∷ w.front; back = w.back; before = ap (λ (l : List (Key × V)). e ∷ l) w.before; behind = ap (λ (l : List (Key × V)). e ∷ l) w.behind }
+  with_one key v e es fs w = record { front = e ∷ w.front; back = w.back; before = ap (λ (l : List (Key × V)). e ∷ l) w.before; beyond = ap (λ (l : List (Key × V)). e ∷ l) w.beyond }
 
   insert_by : (key : Key) (v : V) (e : Key × V) (es fs : List (Key × V)) (o : Ordering) → key_order key e.0 ≡ o → key.serial ≢ e.0.serial → With key v es fs
       → With key v (e ∷ es) (match_ordering o ((key, v) ∷ e ∷ es) ((e.0, v) ∷ es) (e ∷ fs))
-  insert_by key v e es fs Less q n w = record { front = []; back = e ∷ es; before = refl; behind = refl }
+  insert_by key v e es fs Less q n w = record { front = []; back = e ∷ es; before = refl; beyond = refl }
   insert_by key v e es fs Equal q n w = absurd (n (order_serial key e.0 q))
   insert_by key v e es fs Greater q n w = with_one key v e es fs w
 
   -- a new key is one entry more
   pub insert_new : (key : Key) (v : V) (es : List (Key × V)) → AllByRecursion (λ e. key.serial ≢ e.0.serial) es → With key v es (insert_entry key_order es key v)
-  insert_new key v [] n = record { front = []; back = []; before = refl; behind = refl }
+  insert_new key v [] n = record { front = []; back = []; before = refl; beyond = refl }
   insert_new key v (e ∷ es) n = insert_by key v e es (insert_entry key_order es key v) (key_order key e.0) refl n.0 (insert_new key v es n.1)
 
   -- what was found, and what is left without it
@@ -59,15 +69,32 @@ module _ {V : Type 0} where
     pub back : List (Key × V)
     pub stored : Key
     pub same : key.serial ≡ stored.serial
+    pub host : key.host ≡ stored.host
     pub whole : es ≡ front ++ (stored, v) ∷ back
     pub rest : fs ≡ front ++ back
 
   taken_one : (key : Key) (v : V) (e : Key × V) (es fs : List (Key × V)) → Taken key v es fs → Taken key v (e ∷ es) (e ∷ fs)
-  taken_one key v e es fs t = record { front = e ∷ t.front; back = t.back; stored = t.stored; same = t.same; whole = ap (λ (l : List (Key × V)). e ∷ l) t.whole; rest = ap (λ (l : List (Key × V)). e ∷ l) t.rest }
+  taken_one key v e es fs t = record {
+    front = e ∷ t.front;
+    back = t.back;
+    stored = t.stored;
+    same = t.same;
+    host = t.host;
+    whole = ap (λ (l : List (Key × V)). e ∷ l) t.whole;
+    rest = ap (λ (l : List (Key × V)). e ∷ l) t.rest;
+  }
 
   find_by : (key : Key) (v : V) (e : Key × V) (es fs : List (Key × V)) (b : Bool) → is_eq (key_order key e.0) ≡ b → cond b (Some e.1) (lookup (is_at (key_order key)) es) ≡ Some v
       → (lookup (is_at (key_order key)) es ≡ Some v → Taken key v es fs) → Taken key v (e ∷ es) (cond b es (e ∷ fs))
-  find_by key v e es fs true q l h = record { front = []; back = es; stored = e.0; same = order_serial key e.0 (order_at (key_order key e.0) q); whole = ap (λ (x : V). (e.0, x) ∷ es) (same_Some e.1 v l); rest = refl }
+  find_by key v e es fs true q l h = record {
+    front = [];
+    back = es;
+    stored = e.0;
+    same = order_serial key e.0 (order_at (key_order key e.0) q);
+    host = order_host key e.0 (order_at (key_order key e.0) q);
+    whole = ap (λ (x : V). (e.0, x) ∷ es) (same_Some e.1 v l);
+    rest = refl;
+  }
   find_by key v e es fs false q l h = taken_one key v e es fs (h l)
 
   -- a key that is found is taken out
@@ -85,7 +112,8 @@ module _ {V : Type 0} where
   miss_taken key (e ∷ es) l = miss_by e (is_at (key_order key) e.0) (lookup (is_at (key_order key)) es) es (remove_entry (is_at (key_order key)) es) l (miss_taken key es)
 
 -- what holds of a key and of all others holds of them together
-insert_all_by : {A : Type 0} (P : A → Type 0) (x y : A) (ys zs : List A) (o : Ordering) → P x → P y → AllByRecursion P ys → AllByRecursion P zs → AllByRecursion P (match_ordering o (x ∷ y ∷ ys) (y ∷ ys) (y ∷ zs))
+insert_all_by : {A : Type 0} (P : A → Type 0) (x y : A) (ys zs : List A) (o : Ordering) → P x → P y → AllByRecursion P ys → AllByRecursion P zs
+    → AllByRecursion P (match_ordering o (x ∷ y ∷ ys) (y ∷ ys) (y ∷ zs))
 insert_all_by P x y ys zs Less p q r s = (p, (q, r))
 insert_all_by P x y ys zs Equal p q r s = (q, r)
 insert_all_by P x y ys zs Greater p q r s = (q, s)

@@ -8,8 +8,10 @@ use Rattle.host_ids.specs.declared.proposal.Proposal.TheVariants as proposals
 use Rattle.wire_codec.specs.declared.envelope.Envelope.{Envelope}
 use Rattle.raft_model.specs.declared.event.LaneEvent.TheVariants as inputs
 use Rattle.raft_model.specs.Group.{is_member, envelope_at}
+use Rattle.host_ids.specs.declared.kind.Kind.{Kind}
 use Rattle.run_model.specs.declared.client.ClientSession.{ClientSession}
 use Rattle.run_model.specs.declared.limit.Limit.{Limit}
+use Rattle.run_model.specs.declared.script.Setup.{Setup}
 use Rattle.run_model.specs.declared.script.ScriptLine.{ScriptLine}
 use Rattle.run_model.specs.declared.script.ScriptLine.TheVariants as script
 use Rattle.run_model.specs.declared.script.HostEvent.{HostEvent}
@@ -19,7 +21,9 @@ use Rattle.run_model.specs.declared.line.Line.{Line}
 use Rattle.run_model.specs.declared.line.Line.TheVariants as lines
 use Rattle.run_model.specs.World.{World, most_sessions}
 use Rattle.run_model.specs.Run
-use Rattle.run_model.specs.Run.{Step, Turn, settle, save_each, deliver_each, apply_each, turn, reached, is_used, next_key, again, asks, call, close, completed, declare, deliver, event_step, group, lose, reads, register, settles, show}
+use Rattle.run_model.specs.Run.{Step, Turn, settle, save_each, deliver_each, apply_each, turn, reached, is_used, next_key, again, asks, call, close, completed, declare, deliver, event_step, group}
+use Rattle.run_model.specs.Run.{lose, reads, register, settles, show}
+use Rattle.run_model.specs.Script.{may_read}
 use Rattle.run_model.specs.Marks.{line_marks}
 use Rattle.run_law.proofs.Lists.{all_map}
 use Rattle.run_law.proofs.Said.{IsGood, IsPositive, AreHosts}
@@ -33,19 +37,20 @@ Between = World → List Told → World → Type 0
 abbrev pub IsMute : Line → Type 0
 IsMute line = (g : ℕ) → line_marks g (codes "-") line ≡ []
 
--- it is done by each step, and by what comes one after the other
-pub record IsDone (P : Between) : Type 0 where
+-- it is done by each step, and by what comes one after the other, where the rosters of groups are admitted, and reads come while no group has more than one voter
+pub record IsDone (P : Between) (Admits : List ℕ → Type 0) : Type 0 where
   pub nothing : (w : World) → P w [] w
   pub next : (u v w : World) (a b : List Told) → P u a v → P v b w → P u (a ++ b) w
   pub mute : (w : World) (line : Line) → IsMute line → P w (Run.bare line ∷ []) w
   pub declared : (w : World) (hosts : List Bool) → P w [] (record w { declared = hosts })
   pub clients : (w : World) (clients : List (List ℕ × ClientSession)) → P w [] (record w { clients = clients })
   pub settled : (w : World) (number : ℕ) → P w [] (record w { settled = number })
-  pub grouped : (w : World) (roster : List ℕ) (limit : ℕ) → Run.has_group w ≡ false → AreHosts roster → 1 ≤ limit → P w [] (Run.grouped roster limit w)
+  pub grouped : (w : World) (roster : List ℕ) (limit : ℕ) → Run.has_group w ≡ false → AreHosts roster → 1 ≤ limit → Admits roster → P w [] (Run.grouped roster limit w)
   pub event : (w : World) (host : ℕ) (event : HostEvent) → is_member w.group host ≡ true → P w (Run.event_step host event w).told (Run.event_step host event w).world
   pub deliver : (w : World) (e : Envelope) (number : ℕ) → envelope_at w.group.wire number ≡ Some e → P w (Run.core e.to (inputs.Deliver number) w).told (Run.core e.to (inputs.Deliver number) w).world
-  pub propose : (w : World) (host : ℕ) (context : List ℕ) (p : Proposal) → is_member w.group host ≡ true → is_used w context ≡ false → P w (Run.proposes host context p w).told (Run.proposes host context p w).world
-  pub read : (w : World) (host : ℕ) (context query : List ℕ) → is_member w.group host ≡ true → is_used w context ≡ false
+  pub propose : (w : World) (host : ℕ) (context : List ℕ) (p : Proposal) → is_member w.group host ≡ true → is_used w context ≡ false
+      → P w (Run.proposes host context p w).told (Run.proposes host context p w).world
+  pub read : (w : World) (host : ℕ) (context query : List ℕ) → is_member w.group host ≡ true → is_used w context ≡ false → length w.group.voters ≤ 1
       → P w (Run.read_asked host (next_key w host) context query w).told (Run.read_asked host (next_key w host) context query w).world
 
 -- each of these hosts is one of the voters
@@ -67,7 +72,7 @@ positive_by : (limit : Option ℕ) → IsPositive limit → 1 ≤ unwrap_or limi
 positive_by None k = omega arith
 positive_by (Some limit) k = k
 
-module _ (P : Between) (h : IsDone P) where
+module _ (P : Between) (Admits : List ℕ → Type 0) (h : IsDone P Admits) where
   -- ---- requests
 
   abbrev Stepped : World → Step → Type 0
@@ -82,8 +87,9 @@ module _ (P : Between) (h : IsDone P) where
   at_replica : (w : World) (host : ℕ) (s : Step) → (is_member w.group host ≡ true → Stepped w s) → Stepped w (Run.at_replica host w s)
   at_replica w host s p = unless w _ 1 _ (λ _. unless w (not (is_member w.group host)) 2 s (λ e. p (true_from_not (is_member w.group host) e)))
 
-  -- a proposal behind a change of a client's session
-  client_proposes : (w : World) (host : ℕ) (context name : List ℕ) (s : ClientSession) (p : Proposal) → is_member w.group host ≡ true → is_used w context ≡ false → Stepped w (Run.proposes host context p (Run.with_client name s w))
+  -- a proposal after a change of a client's session
+  client_proposes : (w : World) (host : ℕ) (context name : List ℕ) (s : ClientSession) (p : Proposal) → is_member w.group host ≡ true → is_used w context ≡ false
+      → Stepped w (Run.proposes host context p (Run.with_client name s w))
   client_proposes w host context name s p member unused =
       let v = Run.with_client name s w in
       let step = Run.proposes host context p v in
@@ -96,9 +102,9 @@ module _ (P : Between) (h : IsDone P) where
       (λ member. unless w (is_used w context) 5 _
       (λ unused. unless w (nat_lt 512 (length command)) 14 _ (λ _. h.propose w host context p member unused)))
 
-  reads_done : (w : World) (host : ℕ) (context query : List ℕ) → Stepped w (Run.reads host context query w)
+  reads_done : (w : World) (host : ℕ) (context query : List ℕ) → length w.group.voters ≤ 1 → Stepped w (Run.reads host context query w)
   unfolding reads
-  reads_done w host context query = at_replica w host _ (λ member. unless w (is_used w context) 5 _ (λ unused. h.read w host context query member unused))
+  reads_done w host context query few = at_replica w host _ (λ member. unless w (is_used w context) 5 _ (λ unused. h.read w host context query member unused few))
 
   register_done : (w : World) (host : ℕ) (context name : List ℕ) (client : ℕ) → Stepped w (Run.register host context name client w)
   unfolding register
@@ -107,7 +113,8 @@ module _ (P : Between) (h : IsDone P) where
       (λ member. unless w (is_used w context) 5 _
       (λ unused. unless w (is_some (Run.client_at w name)) 6 _ (λ _. client_proposes w host context name (Run.new_client client) (proposals.Register client) member unused)))
 
-  of_client : (w : World) (host : ℕ) (context : List ℕ) (o : Option ClientSession) (next : ClientSession → Step) → ((s : ClientSession) → is_member w.group host ≡ true → is_used w context ≡ false → Stepped w (next s)) → Stepped w (Run.of_client o host context w next)
+  of_client : (w : World) (host : ℕ) (context : List ℕ) (o : Option ClientSession) (next : ClientSession → Step)
+      → ((s : ClientSession) → is_member w.group host ≡ true → is_used w context ≡ false → Stepped w (next s)) → Stepped w (Run.of_client o host context w next)
   of_client w host context None next p = unless w _ 1 _ (λ _. unless w (is_used w context) 5 _ (λ _. refused w 6))
   of_client w host context (Some s) next p = at_replica w host _ (λ member. unless w (is_used w context) 5 _ (λ unused. p s member unused))
 
@@ -118,7 +125,8 @@ module _ (P : Between) (h : IsDone P) where
       (λ s member unused. unless w (is_some s.outstanding) 7 _
       (λ _. unless w (nat_lt 512 (length command)) 14 _ (λ _. client_proposes w host context name (record s { outstanding = Some command }) (Run.command_of_client s command) member unused)))
 
-  repeats_done : (w : World) (host : ℕ) (context : List ℕ) (s : ClientSession) (o : Option (List ℕ)) → is_member w.group host ≡ true → is_used w context ≡ false → Stepped w (Run.repeats o host context s w)
+  repeats_done : (w : World) (host : ℕ) (context : List ℕ) (s : ClientSession) (o : Option (List ℕ)) → is_member w.group host ≡ true → is_used w context ≡ false
+      → Stepped w (Run.repeats o host context s w)
   repeats_done w host context s None member unused = refused w 7
   repeats_done w host context s (Some command) member unused = h.propose w host context (Run.command_of_client s command) member unused
 
@@ -220,7 +228,8 @@ module _ (P : Between) (h : IsDone P) where
   round_turned : (size : ℕ) (w : World) → Turned w (Run.round size w)
   round_turned size w =
       let t = save_each w.group.voters size w in
-      then_by w t (λ v. Run.then_turn (deliver_each (Run.unsettled v) size v) (λ u. apply_each u.group.voters size u)) t.full (saves_turned w.group.voters size w (members_all w.group.voters)) (rest_turned size t.world)
+      then_by w t (λ v. Run.then_turn (deliver_each (Run.unsettled v) size v) (λ u. apply_each u.group.voters size u)) t.full (saves_turned w.group.voters size w (members_all w.group.voters))
+      (rest_turned size t.world)
 
   settle_turned : (rounds size : ℕ) (w : World) → Turned w (settle rounds size w)
   unfolding settle
@@ -242,26 +251,28 @@ module _ (P : Between) (h : IsDone P) where
       let v : World = record w { declared = slice_set w.declared host true } in
       unless w _ 13 _ (λ _. h.next w v v [] (Run.bare (lines.Started host 1) ∷ []) (h.declared w v.declared) (h.mute v (lines.Started host 1) (λ g. refl)))
 
-  group_done : (w : World) (roster : List ℕ) (limit : Option ℕ) → AreHosts roster → IsPositive limit → Stepped w (Run.group roster limit w)
+  group_done : (w : World) (roster : List ℕ) (limit : Option ℕ) → AreHosts roster → IsPositive limit → Admits roster → Stepped w (Run.group roster limit w)
   unfolding group
-  group_done w roster limit r l = unless w _ 1 _ (λ _. unless w (Run.has_group w) 13 _ (λ e. h.grouped w roster (unwrap_or limit most_sessions) e r (positive_by limit l)))
+  group_done w roster limit r l m = unless w _ 1 _ (λ _. unless w (Run.has_group w) 13 _ (λ e. h.grouped w roster (unwrap_or limit most_sessions) e r (positive_by limit l) m))
 
-  pub turn_turned : (said : ScriptLine) (size : ℕ) (w : World) → IsGood said → P w (turn said size w).told (turn said size w).world
+  pub turn_turned : (setup : Setup) (said : ScriptLine) (size : ℕ) (w : World) → IsGood setup said
+      → ((number : ℕ) (kind : Kind) (roster : List ℕ) (limit : Option ℕ) → said ≡ script.Group number kind roster limit → Admits roster) → (may_read setup ≡ true → length w.group.voters ≤ 1)
+      → P w (turn said size w).told (turn said size w).world
   unfolding turn settles completed
-  turn_turned script.Skipped size w k = h.nothing w
-  turn_turned script.End size w k = h.nothing w
-  turn_turned (script.Host host) size w k = declare_done w host
-  turn_turned (script.Group number kind roster limit) size w k = group_done w roster limit k.0 k.1
-  turn_turned (script.Event host event) size w k = at_replica w host _ (λ member. h.event w host event member)
-  turn_turned (script.Deliver number envelope) size w k = deliver_done w envelope
-  turn_turned (script.Ask host number context command) size w k = asks_done w host context command (proposals.Plain command)
-  turn_turned (script.Read host number context query) size w k = reads_done w host context query
-  turn_turned (script.Register host number context session client) size w k = register_done w host context session client
-  turn_turned (script.Call host context session command) size w k = call_done w host context session command
-  turn_turned (script.Again host context session) size w k = again_done w host context session
-  turn_turned (script.Completed session) size w k = completed_by w session (Run.client_at w session)
-  turn_turned (script.Close host context session) size w k = close_done w host context session
-  turn_turned (script.Raw host number context client series responded command) size w k = asks_done w host context command (proposals.Session client series responded command)
-  turn_turned (script.Settle number) size w k = settles_turned size w
-  turn_turned (script.Lose number) size w k = lose_done w
-  turn_turned (script.Wire number envelope) size w k = show_done w envelope
+  turn_turned setup script.Skipped size w k admits few = h.nothing w
+  turn_turned setup script.End size w k admits few = h.nothing w
+  turn_turned setup (script.Host host) size w k admits few = declare_done w host
+  turn_turned setup (script.Group number kind roster limit) size w k admits few = group_done w roster limit k.0 k.1 (admits number kind roster limit refl)
+  turn_turned setup (script.Event host event) size w k admits few = at_replica w host _ (λ member. h.event w host event member)
+  turn_turned setup (script.Deliver number envelope) size w k admits few = deliver_done w envelope
+  turn_turned setup (script.Ask host number context command) size w k admits few = asks_done w host context command (proposals.Plain command)
+  turn_turned setup (script.Read host number context query) size w k admits few = reads_done w host context query (few k)
+  turn_turned setup (script.Register host number context session client) size w k admits few = register_done w host context session client
+  turn_turned setup (script.Call host context session command) size w k admits few = call_done w host context session command
+  turn_turned setup (script.Again host context session) size w k admits few = again_done w host context session
+  turn_turned setup (script.Completed session) size w k admits few = completed_by w session (Run.client_at w session)
+  turn_turned setup (script.Close host context session) size w k admits few = close_done w host context session
+  turn_turned setup (script.Raw host number context client series responded command) size w k admits few = asks_done w host context command (proposals.Session client series responded command)
+  turn_turned setup (script.Settle number) size w k admits few = settles_turned size w
+  turn_turned setup (script.Lose number) size w k admits few = lose_done w
+  turn_turned setup (script.Wire number envelope) size w k admits few = show_done w envelope

@@ -75,14 +75,14 @@ finished whole so_far input done unput old mid new stop world number w r (inl h)
   settled = inr (h.0 ∙ ap status_of r.stop_is);
   written = λ _. written input done unput old mid new stop world w r h.1;
   front = λ b. absurd (unbroken stop (subst IsBroken h.0 b));
-  legal = λ k g. so_far input g k;
-  ended = λ e k g. whole input g k (sym r.stop_is ∙ is_ended stop (sym h.0 ∙ e));
+  legal = λ g. so_far input g;
+  ended = λ e g. whole input g (sym r.stop_is ∙ is_ended stop (sym h.0 ∙ e));
 }
 finished whole so_far input done unput old mid new stop world number w r (inr h) = record {
   settled = inl (instead number h.0);
   written = λ a. absurd (no_answer number (instead number h.0) a);
   front = λ _. fronted input done unput old mid new stop world w r h.1;
-  legal = λ k g. so_far input g k;
+  legal = λ g. so_far input g;
   ended = λ e. absurd (no_answer number (instead number h.0) (inl e));
 }
 
@@ -102,7 +102,7 @@ given_up so_far input old new number n f = record {
   settled = inl (instead number n);
   written = λ a. absurd (no_answer number (instead number n) a);
   front = λ _. longer input old new f;
-  legal = λ k g. so_far input g k;
+  legal = λ g. so_far input g;
   ended = λ e. absurd (no_answer number (instead number n) (inl e));
 }
 

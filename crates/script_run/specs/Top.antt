@@ -9,7 +9,7 @@ use Rattle.run_model.specs.declared.line.Line.TheVariants as lines
 use Rattle.run_model.specs.World.{World}
 use Rattle.run_model.specs.Script.{is_script}
 use Rattle.run_model.specs.Run.{bare, outcome_of, output_of, text_of, ending}
-use Rattle.run_law.specs.Lawful.{HasSingleVoters, IsLegalAtEnd, IsLegalSoFar}
+use Rattle.run_law.specs.Lawful.{IsLegalAtEnd, IsLegalSoFar}
 use Rattle.script_run.specs.declared.lines.Runner.{Runner}
 use Rattle.script_run.specs.declared.lines.Progress.{Progress}
 use Rattle.script_run.specs.declared.lines.Progress.TheVariants as progress
@@ -81,36 +81,36 @@ IsComplete input SourceFailed SinkFailed number = is_script input ≡ true → I
 abbrev pub Takes : Option (List ℕ) → Option (List ℕ) → ℕ → Type 0
 Takes old new most = (bytes : List ℕ) × Consumes old new bytes × (length bytes < most)
 
--- the run over all of this input stops with the answer, or something came instead; what was written is all that it writes, or a front of it; it is legal where every group has one voter
+-- the run over all of this input stops with the answer, or something came instead; what was written is all that it writes, or a front of it; it is legal for each group
 pub record HasRun (input : List ℕ) (old now : Option (List ℕ)) (number : ℕ) : Type 0 where
   pub settled : IsInstead number ⊎ (number ≡ status_of (outcome_of input).stop)
   pub written : IsAnswer number → Appends old now (output_of input)
   pub front : IsBroken number → WritesFront old now (output_of input)
-  pub legal : HasSingleVoters input → (group : ℕ) → IsLegalSoFar group input
-  pub ended : number ≡ 0 → HasSingleVoters input → (group : ℕ) → IsLegalAtEnd group input
+  pub legal : (group : ℕ) → IsLegalSoFar group input
+  pub ended : number ≡ 0 → (group : ℕ) → IsLegalAtEnd group input
 
--- all that the run over this input writes was written; where every group has one voter, it is legal before the last lines for each group by the decided list of the world that was reached
+-- all that the run over this input writes was written; before the last lines it is legal for each group by the decided list of the world that was reached
 pub record WritesAll (input : List ℕ) (old now : Option (List ℕ)) : Type 0 where
   pub written : Appends old now (output_of input)
-  pub legal : HasSingleVoters input → (group : ℕ) → IsLegalSoFar group input
+  pub legal : (group : ℕ) → IsLegalSoFar group input
 
--- a front of what the run over this input writes was written, and that is legal where every group has one voter
+-- a front of what the run over this input writes was written, and that is legal for each group
 pub record WritesSome (input : List ℕ) (old now : Option (List ℕ)) : Type 0 where
   pub written : WritesFront old now (output_of input)
-  pub legal : HasSingleVoters input → (group : ℕ) → IsLegalSoFar group input
+  pub legal : (group : ℕ) → IsLegalSoFar group input
 
--- the run over what was taken stops in the midst of its lines, and what was written is what it tells; where every group has one voter, it is legal for each group
+-- the run over what was taken stops in the midst of its lines, and what was written is what it tells, which is legal for each group
 pub record WasCut (left_old left_new old now : Option (List ℕ)) : Type 0 where
   pub script : List ℕ
   pub taken : Consumes left_old left_new script
   pub cut : IsSpent (outcome_of script).stop
   pub written : Appends old now (text_of (outcome_of script).told)
-  pub legal : HasSingleVoters script → (group : ℕ) → IsLegalSoFar group script
+  pub legal : (group : ℕ) → IsLegalSoFar group script
 
--- the main sentence: the whole output of the run over this input was written, and where every group has one voter, it is legal for each group by the entries that it shows
+-- the main sentence: the whole output of the run over this input was written, and it is legal for each group by the entries that it shows
 pub record IsLegalRun (input : List ℕ) (old now : Option (List ℕ)) : Type 0 where
   pub written : Appends old now (output_of input)
-  pub legal : HasSingleVoters input → (group : ℕ) → IsLegalAtEnd group input
+  pub legal : (group : ℕ) → IsLegalAtEnd group input
 
 -- the last lines of a stop were written behind these bytes, or after a fault a front of both
 abbrev pub Finished : Option (List ℕ) → Option (List ℕ) → List ℕ → Stop → World → ℕ → Type 0

@@ -108,9 +108,9 @@ fn run_script<S: Source, K: Sink>(alloc: Global, source: &mut S, sink: &mut K) -
 /// before it takes the next piece. Other words print `usage` (`usage_line`), and take
 /// nothing (`usage_take`); a fault of the sink is ignored then.
 ///
-/// Statuses, each with the clause that ties it to its cause: 0 at the word `end` (`done`), and then,
-/// where the group has one voter, the whole output is legal for each group by the entries that it
-/// shows (`headline`); 2 where the words are not `run` (`usage`); 3 where a line is bad or the last one
+/// Statuses, each with the clause that ties it to its cause: 0 at the word `end` (`done`), and then
+/// the whole output is legal for each group, whatever its roster, by the entries that it shows
+/// (`headline`); 2 where the words are not `run` (`usage`); 3 where a line is bad or the last one
 /// isn't whole (`bad_line`); 4 where the source failed in this call (`read_fault`), and 5 where the
 /// sink did (`write_fault`); 7 where, before a line or before an event of a `settle`, leaders have
 /// appended 200,000 entries or more, 400,000 envelopes or more were sent, or the lines that were read

@@ -11,7 +11,7 @@ use Rattle.object_model.specs.Mark.{entries}
 use Rattle.object_model.specs.Legal.{IsLegalOutput}
 use Rattle.object_model.specs.Decision.{legal, each_good}
 use Rattle.object_model.specs.Laws.{DecidesLegal}
-use Rattle.legal_rows.specs.Outputs.{worked, second_ending, unasked_ending, other_reply, unasked_entry, read_below_told}
+use Rattle.legal_rows.specs.Outputs.{worked, second_ending, unasked_ending, other_reply, unasked_entry, read_below_told, skipped_number, late_number, repeated_number}
 
 -- what the test lets through is legal
 pub passes : DecidesLegal → (ms : List Mark) → legal 4096 (entries ms) ms ≡ true → IsLegalOutput 4096 ms
@@ -44,3 +44,15 @@ unasked_entry_refused = refl
 pub read_below_told_refused : legal 4096 (entries read_below_told) read_below_told ≡ false
 unfolding digits number_on command_of query_of after answer standing raised after_all each_good
 read_below_told_refused = refl
+
+pub skipped_number_refused : legal 4096 (entries skipped_number) skipped_number ≡ false
+unfolding digits number_on command_of query_of after answer standing raised after_all each_good
+skipped_number_refused = refl
+
+pub late_number_refused : legal 4096 (entries late_number) late_number ≡ false
+unfolding digits number_on command_of query_of after answer standing raised after_all each_good
+late_number_refused = refl
+
+pub repeated_number_refused : legal 4096 (entries repeated_number) repeated_number ≡ false
+unfolding digits number_on command_of query_of after answer standing raised after_all each_good
+repeated_number_refused = refl

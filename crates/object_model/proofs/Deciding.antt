@@ -1,5 +1,5 @@
 -- The test of legality decides it.
-use Rattle.std.proofs.Common.{◌≡◌, ◌≢◌, ◌≤◌, ◌-◌, ℕ, List, [], ◌∷◌, ◌++◌, length, Bool, true, false, not, ◌&&◌, ◌||◌, Option, Some, None, IfSome, slice_get, refl, sym, ap, subst, Decides, ◌⊎◌, inl, inr, ⊎_elim, leb-true, le-leb}
+use Rattle.std.proofs.Common.{◌≡◌, ◌≢◌, ◌≤◌, ◌+◌, ◌-◌, ℕ, List, [], ◌∷◌, ◌++◌, length, Bool, true, false, not, ◌&&◌, ◌||◌, Option, Some, None, IfSome, slice_get, refl, sym, ap, subst, Decides, ◌⊎◌, inl, inr, ⊎_elim, leb-true, le-leb}
 use Rattle.std.specs.Prelude.{nat_le}
 use Rattle.std.specs.List.{list_any, list_all, AllByRecursion}
 use Rattle.std.proofs.lemmas.Slice.Eq.{bytes_eq-Decides}
@@ -12,7 +12,7 @@ use Rattle.object_model.specs.declared.mark.Placed.{Placed}
 use Rattle.object_model.specs.declared.mark.Mark.{Mark}
 use Rattle.object_model.specs.declared.mark.Mark.TheVariants as marks
 use Rattle.object_model.specs.Sequence.{ending_at, answer_at}
-use Rattle.object_model.specs.Mark.{asked_context, ended_context, named_place, told_number}
+use Rattle.object_model.specs.Mark.{asked_context, ended_context, named_place, told_number, entries}
 use Rattle.object_model.specs.Legal.{NotAsked, NotEnded, NotNamed, AtMost, Asked, AskedWithin, GoodEnding, GoodRead, GoodLeave, Good, EachGood, IsAccounted}
 use Rattle.object_model.specs.Decision.{proposes, is_context, is_place, is_within, not_asked, not_ended, not_named, asks_for, asked_within, any_request, answered_by, stands_there, good, each_good, accounted}
 use Rattle.object_model.specs.Laws.{DecidesLegal}
@@ -73,7 +73,7 @@ asks_for_Decides context test (marks.Leaves other) = (λ e. cc, λ a. let e = a.
 asks_for_Decides context test (marks.Reads other front answer) = (λ e. cc, λ a. let e = a.is in cc)
 asks_for_Decides context test (marks.Stales front query answer) = (λ e. cc, λ a. let e = a.is in cc)
 asks_for_Decides context test (marks.Tells number) = (λ e. cc, λ a. let e = a.is in cc)
-asks_for_Decides context test (marks.Shows placed) = (λ e. cc, λ a. let e = a.is in cc)
+asks_for_Decides context test (marks.Shows place placed) = (λ e. cc, λ a. let e = a.is in cc)
 
 or_left : (a b : Bool) → a ≡ true → (a || b) ≡ true
 or_left true b e = refl
@@ -219,7 +219,7 @@ good_Decides limit list before (marks.Leaves context) = good_leave_Decides limit
 good_Decides limit list before (marks.Reads context front answer) = good_read_Decides limit list before context front answer
 good_Decides limit list before (marks.Stales front query answer) = Decides-and _ _ (Decides-le front (length list)) (bytes_eq-Decides answer (answer_at limit list front query))
 good_Decides limit list before (marks.Tells number) = (λ e. tt, λ e. refl)
-good_Decides limit list before (marks.Shows placed) = (λ e. tt, λ e. refl)
+good_Decides limit list before (marks.Shows place placed) = Decides-eqb place (length (entries before) + 1)
 
 -- ---- legality
 

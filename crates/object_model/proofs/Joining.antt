@@ -1,5 +1,5 @@
 -- Moves one after another, and the entries shown behind them.
-use Rattle.std.proofs.Common.{inl, inr, ◌≡◌, ℕ, List, [], ◌∷◌, ◌++◌, refl, ap, ◌∙◌, subst, append_assoc}
+use Rattle.std.proofs.Common.{inl, inr, ◌≡◌, ℕ, List, [], ◌∷◌, ◌++◌, ◌+◌, length, refl, ap, ◌∙◌, subst, append_assoc, arith, length-append}
 use Rattle.std.specs.List.{AllByRecursion}
 use Rattle.std.proofs.lemmas.List.{append-nil}
 use Rattle.std.proofs.lemmas.Grind.{flat_map-append}
@@ -9,7 +9,7 @@ use Rattle.object_model.specs.declared.mark.Mark.{Mark}
 use Rattle.object_model.specs.declared.mark.Mark.TheVariants as marks
 use Rattle.object_model.specs.Mark.{entries, shown_entry}
 use Rattle.object_model.specs.Legal.{Legal, IsAccounted}
-use Rattle.object_model.specs.Desk.{Request, Desk, MayStand, Grows, Move, Moves, shown, MovesAreLegal, MovesShowNothing, MovesJoin}
+use Rattle.object_model.specs.Desk.{Request, Desk, empty_desk, MayStand, Grows, Move, Moves, shown, shown_from, MovesAreLegal, MovesShowNothing, MovesJoin}
 use Rattle.object_model.proofs.Lists.{all_append, all_map}
 use Rattle.object_model.proofs.Keeping.{asked_more, each_last, moves_legal}
 
@@ -47,7 +47,7 @@ move_shows limit d e (marks.Leaves context) ms h = refl
 move_shows limit d e (marks.Reads context front answer) ms h = refl
 move_shows limit d e (marks.Stales front query answer) ms h = refl
 move_shows limit d e (marks.Tells number) ms h = refl
-move_shows limit d e (marks.Shows p) ms h = absurd h
+move_shows limit d e (marks.Shows place p) ms h = absurd h
 
 -- moves show no entry
 pub moves_show : (limit : ℕ) (d : Desk) (ms : List Mark) (e : Desk) → Moves limit d ms e → entries ms ≡ []
@@ -56,34 +56,44 @@ moves_show limit d [] e m = refl
 moves_show limit d (x ∷ ms) e m = move_shows limit m.0 m.1 x ms m.3 ∙ moves_show limit m.1 ms e m.4
 
 -- the marks that show a list show it
-pub entries_shown : (ps : List Placed) → entries (shown ps) ≡ ps
-entries_shown [] = refl
-entries_shown (p ∷ ps) = ap (λ (l : List Placed). p ∷ l) (entries_shown ps)
+pub entries_shown : (n : ℕ) (ps : List Placed) → entries (shown_from n ps) ≡ ps
+entries_shown n [] = refl
+entries_shown n (p ∷ ps) = ap (λ (l : List Placed). p ∷ l) (entries_shown (n + 1) ps)
 
 -- what is accounted for stays so when marks follow
 accounted_more : (before ms : List Mark) (e : Placed) → IsAccounted before e → IsAccounted (before ++ ms) e
 accounted_more before ms e (inl b) = inl b
 accounted_more before ms e (inr a) = inr (asked_more before ms e.context (whats.Proposes e.proposal) a)
 
--- an entry shown behind legal marks
-one_shown : (limit : ℕ) (list : List Placed) (ms : List Mark) (p : Placed) → Legal limit list ms → Legal limit list (ms ++ marks.Shows p ∷ [])
-one_shown limit list ms p l = record {
-  each = each_last limit list [] ms (marks.Shows p) l.each tt;
-  places = all_map (IsAccounted ms) (IsAccounted (ms ++ marks.Shows p ∷ [])) list (λ e a. accounted_more ms (marks.Shows p ∷ []) e a) l.places;
+-- the next entry shown after legal marks
+one_shown : (limit : ℕ) (list : List Placed) (ms : List Mark) (n : ℕ) (p : Placed) → n ≡ length (entries ms) + 1 → Legal limit list ms → Legal limit list (ms ++ marks.Shows n p ∷ [])
+one_shown limit list ms n p next l = record {
+  each = each_last limit list [] ms (marks.Shows n p) l.each next;
+  places = all_map (IsAccounted ms) (IsAccounted (ms ++ marks.Shows n p ∷ [])) list (λ e a. accounted_more ms (marks.Shows n p ∷ []) e a) l.places;
 }
 
--- entries shown behind legal marks
-pub all_shown : (limit : ℕ) (list : List Placed) (ms : List Mark) (ps : List Placed) → Legal limit list ms → Legal limit list (ms ++ shown ps)
-all_shown limit list ms [] l = rw append-nil l
-all_shown limit list ms (p ∷ ps) l = subst (Legal limit list) (append_assoc ms (marks.Shows p ∷ []) (shown ps)) (all_shown limit list (ms ++ marks.Shows p ∷ []) ps (one_shown limit list ms p l))
+-- with it one entry more is shown
+count_shown : (ms : List Mark) (n : ℕ) (p : Placed) → length (entries (ms ++ marks.Shows n p ∷ [])) ≡ length (entries ms) + 1
+count_shown ms n p = ap (λ (l : List Placed). length l) (flat_map-append shown_entry ms (marks.Shows n p ∷ [])) ∙ length-append (entries ms) (p ∷ [])
+
+-- entries shown one after another after legal marks
+pub all_shown : (limit : ℕ) (list : List Placed) (ms : List Mark) (n : ℕ) (ps : List Placed) → n ≡ length (entries ms) + 1 → Legal limit list ms → Legal limit list (ms ++ shown_from n ps)
+all_shown limit list ms n [] next l = rw append-nil l
+all_shown limit list ms n (p ∷ ps) next l =
+    let count = count_shown ms n p in
+    subst (Legal limit list) (append_assoc ms (marks.Shows n p ∷ []) (shown_from (n + 1) ps))
+    (all_shown limit list (ms ++ marks.Shows n p ∷ []) (n + 1) ps (omega (arith, next, count)) (one_shown limit list ms n p next l))
 
 -- ---- the laws
 
 pub moves_are_legal : MovesAreLegal
-moves_are_legal limit ms e g = let l = moves_legal limit ms e g in (l, all_shown limit e.decided ms e.decided l)
+moves_are_legal limit ms e g =
+    let l = moves_legal limit ms e g in
+    let none : length (entries ms) ≡ 0 = ap (λ (l : List Placed). length l) (moves_show limit empty_desk ms e g) in
+    (l, all_shown limit e.decided ms 1 e.decided (omega (arith, none)) l)
 
 pub moves_show_nothing : MovesShowNothing
-moves_show_nothing limit d ms e g = flat_map-append shown_entry ms (shown e.decided) ∙ rw (moves_show limit d ms e g) (entries_shown e.decided)
+moves_show_nothing limit d ms e g = flat_map-append shown_entry ms (shown e.decided) ∙ rw (moves_show limit d ms e g) (entries_shown 1 e.decided)
 
 pub moves_join : MovesJoin
 moves_join = moves_then

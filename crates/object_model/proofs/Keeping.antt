@@ -97,7 +97,7 @@ good_more limit list more before (marks.Reads context front answer) g = record {
 }
 good_more limit list more before (marks.Stales front query answer) g = (rw length-append (omega (arith, g.0)), rw (history_more front list more g.0) g.1)
 good_more limit list more before (marks.Tells number) g = tt
-good_more limit list more before (marks.Shows e) g = tt
+good_more limit list more before (marks.Shows place e) g = g
 
 each_more : (limit : ℕ) (list more : List Placed) (before ms : List Mark) → EachGood limit list before ms → EachGood limit (list ++ more) before ms
 unfolding EachGood
@@ -366,7 +366,7 @@ move_kept limit before d e (marks.Leaves context) k m = leave_kept limit before 
 move_kept limit before d e (marks.Reads context front answer) k m = read_kept limit before d e context front answer k m
 move_kept limit before d e (marks.Stales front query answer) k m = plain_kept limit before d e (marks.Stales front query answer) k refl refl refl (m.0, m.1) (m.0, tt) m.2
 move_kept limit before d e (marks.Tells number) k m = plain_kept limit before d e (marks.Tells number) k refl refl refl tt (m.0, tt) m.1
-move_kept limit before d e (marks.Shows p) k m = absurd m
+move_kept limit before d e (marks.Shows place p) k m = absurd m
 
 moves_kept : (limit : ℕ) (before : List Mark) (d : Desk) (ms : List Mark) (e : Desk) → Kept limit before d → Moves limit d ms e → Kept limit (before ++ ms) e
 unfolding Moves

@@ -1,5 +1,5 @@
 -- The rules of legality as tests that compute. Source: this project's own.
-use Rattle.std.specs.Prelude.{ℕ, ◌-◌, ◌==◌, List, [], ◌∷◌, ◌++◌, Bool, true, false, not, ◌&&◌, ◌||◌, nat_lt, nat_le, length, Option, Some, None, slice_get, bytes_eq}
+use Rattle.std.specs.Prelude.{ℕ, ◌+◌, ◌-◌, ◌==◌, List, [], ◌∷◌, ◌++◌, Bool, true, false, not, ◌&&◌, ◌||◌, nat_lt, nat_le, length, Option, Some, None, slice_get, bytes_eq}
 use Rattle.std.specs.List.{list_any, list_all}
 use Rattle.host_ids.specs.declared.proposal.Proposal.{Proposal}
 use Rattle.host_ids.specs.declared.proposal.Proposal.TheVariants as proposals
@@ -11,7 +11,7 @@ use Rattle.object_model.specs.declared.mark.Placed.{Placed}
 use Rattle.object_model.specs.declared.mark.Mark.{Mark}
 use Rattle.object_model.specs.declared.mark.Mark.TheVariants as marks
 use Rattle.object_model.specs.Sequence.{ending_at, answer_at}
-use Rattle.object_model.specs.Mark.{asked_context, ended_context, named_place, told_number}
+use Rattle.object_model.specs.Mark.{asked_context, ended_context, named_place, told_number, entries}
 
 -- ---- the same proposal, the same request, the same ending
 
@@ -138,7 +138,7 @@ asks_for context test (marks.Leaves other) = false
 asks_for context test (marks.Reads other front answer) = false
 asks_for context test (marks.Stales front query answer) = false
 asks_for context test (marks.Tells number) = false
-asks_for context test (marks.Shows placed) = false
+asks_for context test (marks.Shows place placed) = false
 
 -- such a mark is among these, and no number told before it is greater than this
 abbrev pub asked_within : (Mark → Bool) → ℕ → List Mark → Bool
@@ -167,7 +167,7 @@ good limit list before (marks.Reads context front answer) =
     nat_le front (length list) && asked_within (asks_for context (answered_by limit list front answer)) front before && not_ended context before
 good limit list before (marks.Stales front query answer) = nat_le front (length list) && bytes_eq answer (answer_at limit list front query)
 good limit list before (marks.Tells number) = true
-good limit list before (marks.Shows placed) = true
+good limit list before (marks.Shows place placed) = place == length (entries before) + 1
 
 unfoldable pub each_good : ℕ → List Placed → List Mark → List Mark → Bool
 each_good limit list before [] = true

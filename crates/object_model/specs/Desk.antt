@@ -1,5 +1,5 @@
 -- A desk: the one list that is decided and only grows, what was asked and may be decided, and the requests that are open. Its moves are all that legality asks of a world. Source: this project's own.
-use Rattle.std.specs.Prelude.{◌≡◌, ◌≢◌, ◌≤◌, ◌<◌, ◌-◌, ℕ, List, [], ◌∷◌, ◌++◌, Some, length, slice_get, ◌⊎◌}
+use Rattle.std.specs.Prelude.{◌≡◌, ◌≢◌, ◌≤◌, ◌<◌, ◌+◌, ◌-◌, ℕ, List, [], ◌∷◌, ◌++◌, Some, length, slice_get, ◌⊎◌}
 use Rattle.std.specs.List.{AllByRecursion}
 use Rattle.host_ids.specs.declared.proposal.Proposal.{Proposal}
 use Rattle.host_ids.specs.declared.proposal.Proposal.TheVariants as proposals
@@ -91,19 +91,23 @@ Move limit d (marks.Leaves context) e = LeaveMove d context e
 Move limit d (marks.Reads context front answer) e = ReadMove limit d context front answer e
 Move limit d (marks.Stales front query answer) e = (front ≤ length d.decided) × (answer ≡ answer_at limit d.decided front query) × (e ≡ d)
 Move limit d (marks.Tells number) e = (number ≤ length d.decided) × (e ≡ d)
-Move limit d (marks.Shows placed) e = ⊥
+Move limit d (marks.Shows place placed) e = ⊥
 
--- mark after mark, where the list grows before each one and behind the last
+-- mark after mark, where the list grows before each one and after the last
 unfoldable pub Moves : ℕ → Desk → List Mark → Desk → Type 0
 Moves limit d [] e = Grows d e
 Moves limit d (m ∷ ms) e = (grown next : Desk) × Grows d grown × Move limit grown m next × Moves limit next ms e
 
--- the marks that show a list of entries
-abbrev pub shown : List Placed → List Mark
-shown [] = []
-shown (p ∷ ps) = marks.Shows p ∷ shown ps
+-- the marks that show a list of entries, numbered from this place on
+abbrev pub shown_from : ℕ → List Placed → List Mark
+shown_from n [] = []
+shown_from n (p ∷ ps) = marks.Shows n p ∷ shown_from (n + 1) ps
 
--- marks that are moves from an empty desk are legal by the list decided in the end, also with its entries shown behind them
+-- the marks that show a whole list
+abbrev pub shown : List Placed → List Mark
+shown list = shown_from 1 list
+
+-- marks that are moves from an empty desk are legal by the list decided in the end, also with its entries shown after them
 abbrev pub MovesAreLegal : Type 0
 MovesAreLegal = (limit : ℕ) (ms : List Mark) (e : Desk) → Moves limit empty_desk ms e → Legal limit e.decided ms × Legal limit e.decided (ms ++ shown e.decided)
 

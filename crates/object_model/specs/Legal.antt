@@ -1,5 +1,5 @@
 -- When the marks of a group's output are legal by a list of proposals with their contexts. Each mark is judged by the marks before it. Source: this project's own.
-use Rattle.std.specs.Prelude.{◌≡◌, ◌≢◌, ◌≤◌, ◌<◌, ◌-◌, ℕ, List, [], ◌∷◌, ◌++◌, Some, IfSome, length, slice_get, ◌⊎◌}
+use Rattle.std.specs.Prelude.{◌≡◌, ◌≢◌, ◌≤◌, ◌<◌, ◌+◌, ◌-◌, ℕ, List, [], ◌∷◌, ◌++◌, Some, IfSome, length, slice_get, ◌⊎◌}
 use Rattle.std.specs.List.{AllByRecursion}
 use Rattle.host_ids.specs.declared.proposal.Proposal.{Proposal}
 use Rattle.host_ids.specs.declared.proposal.Proposal.TheVariants as proposals
@@ -65,7 +65,7 @@ pub record GoodLeave (before : List Mark) (context : List ℕ) : Type 0 where
   pub asked : Asked before context what
   pub only : NotEnded context before
 
--- a mark is good by the list and by the marks before it
+-- a mark is good by the list and by the marks before it; an entry that is shown has the number that comes next
 abbrev pub Good : ℕ → List Placed → List Mark → Mark → Type 0
 Good limit list before (marks.Asks context what) = NotAsked context before
 Good limit list before (marks.Ends context place ending) = GoodEnding limit list before context place ending
@@ -73,7 +73,7 @@ Good limit list before (marks.Leaves context) = GoodLeave before context
 Good limit list before (marks.Reads context front answer) = GoodRead limit list before context front answer
 Good limit list before (marks.Stales front query answer) = (front ≤ length list) × (answer ≡ answer_at limit list front query)
 Good limit list before (marks.Tells number) = Unit {0}
-Good limit list before (marks.Shows placed) = Unit {0}
+Good limit list before (marks.Shows place placed) = place ≡ length (entries before) + 1
 
 -- each mark is good, where those before the first are given
 unfoldable pub EachGood : ℕ → List Placed → List Mark → List Mark → Type 0

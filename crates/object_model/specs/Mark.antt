@@ -13,7 +13,7 @@ asked_context (marks.Leaves context) = None
 asked_context (marks.Reads context front answer) = None
 asked_context (marks.Stales front query answer) = None
 asked_context (marks.Tells number) = None
-asked_context (marks.Shows placed) = None
+asked_context (marks.Shows place placed) = None
 
 -- the context whose request a mark ends
 abbrev pub ended_context : Mark → Option (List ℕ)
@@ -23,7 +23,7 @@ ended_context (marks.Leaves context) = Some context
 ended_context (marks.Reads context front answer) = Some context
 ended_context (marks.Stales front query answer) = None
 ended_context (marks.Tells number) = None
-ended_context (marks.Shows placed) = None
+ended_context (marks.Shows place placed) = None
 
 -- the place that an ending names
 abbrev pub named_place : Mark → Option ℕ
@@ -33,7 +33,7 @@ named_place (marks.Leaves context) = None
 named_place (marks.Reads context front answer) = None
 named_place (marks.Stales front query answer) = None
 named_place (marks.Tells number) = None
-named_place (marks.Shows placed) = None
+named_place (marks.Shows place placed) = None
 
 -- the number that a mark tells: a place, a front or an index
 abbrev pub told_number : Mark → Option ℕ
@@ -43,7 +43,7 @@ told_number (marks.Leaves context) = None
 told_number (marks.Reads context front answer) = Some front
 told_number (marks.Stales front query answer) = Some front
 told_number (marks.Tells number) = Some number
-told_number (marks.Shows placed) = None
+told_number (marks.Shows place placed) = None
 
 -- the entry that a mark shows
 abbrev pub shown_entry : Mark → List Placed
@@ -53,7 +53,7 @@ shown_entry (marks.Leaves context) = []
 shown_entry (marks.Reads context front answer) = []
 shown_entry (marks.Stales front query answer) = []
 shown_entry (marks.Tells number) = []
-shown_entry (marks.Shows placed) = placed ∷ []
+shown_entry (marks.Shows place placed) = placed ∷ []
 
 -- the printed entries: the list of proposals that an output is judged by
 abbrev pub entries : List Mark → List Placed

@@ -7,6 +7,7 @@ use Rattle.object_model.specs.declared.mark.Ending.TheVariants.{Done, Rejected, 
 use Rattle.object_model.specs.declared.mark.Placed.{Placed}
 use Rattle.object_model.specs.declared.mark.Mark.{Mark}
 use Rattle.object_model.specs.declared.mark.Mark.TheVariants as marks
+use Rattle.object_model.specs.Desk.{shown}
 
 -- a proposal that is asked under a context
 abbrev pub placed : List ℕ → Proposal → Placed
@@ -17,7 +18,7 @@ asks e = marks.Asks e.context (whats.Proposes e.proposal)
 
 -- the first entry is a blank, and the others are what was asked
 abbrev pub shows_all : List Placed → List Mark
-shows_all asked = marks.Shows (placed (codes "-") Blank) ∷ map (λ e. marks.Shows e) asked
+shows_all asked = shown (placed (codes "-") Blank ∷ asked)
 
 -- a limit of two sessions: the repeat at place 6 touches client 11, so the register at place 7 evicts client 22
 abbrev pub evicting_asked : List Placed

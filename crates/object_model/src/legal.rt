@@ -1,4 +1,4 @@
-ghost use Rattle.std.specs.Prelude.{◌≡◌, ◌-◌, ◌&&◌, ◌↔◌, [], IfOk, IsTrue, bytes_eq, length, nat_le, nat_lt, slice_get};
+ghost use Rattle.std.specs.Prelude.{◌≡◌, ◌+◌, ◌-◌, ◌==◌, ◌&&◌, ◌↔◌, [], IfOk, IsTrue, bytes_eq, length, nat_le, nat_lt, slice_get};
 ghost use Rattle.std.specs.List.{list_any, list_all};
 ghost use Rattle.std.specs.Option.{option_copied};
 ghost use Rattle.object_model.specs.Sequence.{answer_at, ending_at};
@@ -396,6 +396,26 @@ fn good_stale(
     Ok(answer.bytes() == expected.bytes())
 }
 
+/// So many entries are shown.
+fn count_shown(marks: &[Mark]) -> u64
+    ensures { result ≡ length (entries marks.now) }
+{
+    let mut count = 0;
+    for mark in marks {
+        if let Mark::Shows { .. } = mark {
+            count += 1;
+        }
+    }
+    count
+}
+
+/// Whether an entry is numbered next after those shown before it.
+fn is_next(place: u64, before: &[Mark]) -> bool
+    ensures { result ≡ (place == length (entries before.now) + 1) }
+{
+    place > 0 && place - 1 == count_shown(before)
+}
+
 /// Whether a mark is good by the list and by the marks before it.
 fn good(
     alloc: Global,
@@ -427,7 +447,8 @@ fn good(
             query,
             answer,
         } => good_stale(alloc, limit, list, *front, query, answer),
-        Mark::Tells { .. } | Mark::Shows { .. } => Ok(true),
+        Mark::Tells { .. } => Ok(true),
+        Mark::Shows { place, .. } => Ok(is_next(*place, before)),
     }
 }
 
@@ -493,7 +514,7 @@ pub fn entries(alloc: Global, marks: &[Mark]) -> Result<Vec<Placed>, NoMemory>
 {
     let mut list = Vec::new(alloc);
     for mark in marks {
-        if let Mark::Shows { placed } = mark {
+        if let Mark::Shows { placed, .. } = mark {
             list.push(placed.copy()?)?;
         }
     }

@@ -114,7 +114,9 @@ pub enum Mark {
     },
     /// An entry of the decided list is shown.
     Shows {
-        /// The place.
+        /// The number that it is shown with: its place in the list, from 1 on.
+        place: u64,
+        /// What the place holds.
         placed: Placed,
     },
 }

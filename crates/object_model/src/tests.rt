@@ -106,7 +106,8 @@ fn mark_of(alloc: Global, line: &str) -> Result<Mark, Fail> {
             number: first.parse()?,
         }),
         "entry" => Ok(Mark::Shows {
-            placed: placed_of(alloc, rest)?,
+            place: first.parse()?,
+            placed: placed_of(alloc, more)?,
         }),
         _ => {
             let (place, reply) = cut(more);
@@ -136,224 +137,40 @@ fn proposals_of(alloc: Global, list: &str) -> Result<Vec<Proposal>, Fail> {
 }
 
 const PUT_AND_GET: &str =
-    "ask a put x 5/done a 2 -/ask b read get x/read b 2 5/entry - blank/entry a put x 5";
+    "ask a put x 5/done a 2 -/ask b read get x/read b 2 5/entry 1 - blank/entry 2 a put x 5";
 
-const EVICTION: &str =
-    "ask r1 register 11/ask r2 register 22/ask a call 11 1 0 put x 1/ask b call 22 1 0 put x 2/ask c call 11 1 0 put x 1/ask r3 register 33/ask d call 22 1 0 put x 2/ask e call 11 1 0 put x 1/registered r1 2/registered r2 3/done a 4 -/done b 5 1/done c 6 -/registered r3 7/rejected d 8/done e 9 -/entry - blank/entry r1 register 11/entry r2 register 22/entry a call 11 1 0 put x 1/entry b call 22 1 0 put x 2/entry c call 11 1 0 put x 1/entry r3 register 33/entry d call 22 1 0 put x 2/entry e call 11 1 0 put x 1";
-
-/// Whole outputs with their limits of sessions, and whether they are legal by their own entries.
-const OUTPUTS: [(&str, u32, &str, bool); 38] = [
+/// Outputs with their limits of sessions, and whether they are legal by their own entries: those with
+/// lines that no run prints yet, and two more. The program `judged_runs` judges the others.
+const OUTPUTS: [(&str, u32, &str, bool); 6] = [
     ("a put and a get", 4096, PUT_AND_GET, true),
-    ("eviction by the last touch", 2, EVICTION, true),
-    (
-        "the greatest series",
-        4096,
-        "ask r register 5/ask a call 5 1 0 add n 1/ask b call 5 2 1 add n 1/ask c call 5 1 0 add n 1/ask d call 5 3 9 add n 1/ask e call 5 9 0 add n 1/ask f call 5 18446744073709551613 0 add n 1/registered r 2/done a 3 1/done b 4 2/responded c 5/responded d 6/responded e 7/done f 8 3/entry - blank/entry r register 5/entry a call 5 1 0 add n 1/entry b call 5 2 1 add n 1/entry c call 5 1 0 add n 1/entry d call 5 3 9 add n 1/entry e call 5 9 0 add n 1/entry f call 5 18446744073709551613 0 add n 1",
-        true,
-    ),
-    (
-        "dropped",
-        4096,
-        "ask a put x 1/dropped a/ask b read count/dropped b",
-        true,
-    ),
-    (
-        "sums",
-        4096,
-        "ask a put n 18446744073709551615/ask b add n 1/ask c put n 07/ask d add n 1/done a 2 -/done b 3 !/done c 4 18446744073709551615/done d 5 !/entry - blank/entry a put n 18446744073709551615/entry b add n 1/entry c put n 07/entry d add n 1",
-        true,
-    ),
     (
         "a plain command twice",
         4096,
-        "ask a add n 7/done a 2 7/stale 3 14 get n/entry - blank/entry a add n 7/entry a add n 7",
+        "ask a add n 7/done a 2 7/stale 3 14 get n/entry 1 - blank/entry 2 a add n 7/entry 3 a add n 7",
         true,
-    ),
-    (
-        "a close",
-        4096,
-        "ask r register 1/ask k close 1/ask l close 1/registered r 1/closed k 2/rejected l 3/entry r register 1/entry k close 1/entry l close 1",
-        true,
-    ),
-    (
-        "removed and counted",
-        4096,
-        "ask a put x 1/done a 1 -/ask b del x/done b 2 1/ask c del x/done c 3 -/ask d read count/read d 3 0/entry a put x 1/entry b del x/entry c del x",
-        true,
-    ),
-    (
-        "a context asked twice",
-        4096,
-        "ask a put x 5/done a 1 -/ask a put x 5/entry a put x 5",
-        false,
-    ),
-    (
-        "a second ending",
-        4096,
-        "ask a put x 5/done a 1 -/done a 1 -/entry a put x 5",
-        false,
-    ),
-    (
-        "an ending without its ask",
-        4096,
-        "done a 1 -/entry - blank",
-        false,
-    ),
-    (
-        "an ending before its ask",
-        4096,
-        "dropped a/ask a put x 5",
-        false,
-    ),
-    (
-        "a read after it was dropped",
-        4096,
-        "ask a read get x/dropped a/read a 0 -",
-        false,
-    ),
-    (
-        "a place twice",
-        4096,
-        "ask a put x 5/ask b put x 5/done a 1 -/done b 1 -/entry a put x 5",
-        false,
-    ),
-    (
-        "a place past the end",
-        4096,
-        "ask a put x 5/done a 2 -/entry a put x 5",
-        false,
-    ),
-    (
-        "place 0",
-        4096,
-        "ask a put x 5/done a 0 -/entry a put x 5",
-        false,
-    ),
-    (
-        "another text at the place",
-        4096,
-        "ask a put x 5/done a 1 -/entry a put x 6",
-        false,
-    ),
-    (
-        "another context at the place",
-        4096,
-        "ask a put x 5/ask b put x 5/done a 1 -/entry b put x 5",
-        false,
     ),
     (
         "another reply",
         4096,
-        "ask a put x 5/done a 1 5/entry a put x 5",
-        false,
-    ),
-    (
-        "the reply of another place",
-        4096,
-        "ask a put x 1/ask b put x 2/done a 1 -/done b 2 -/entry a put x 1/entry b put x 2",
-        false,
-    ),
-    (
-        "a blank that ends",
-        4096,
-        "ask a put x 5/rejected a 1/entry a blank",
-        false,
-    ),
-    (
-        "a command shown as rejected",
-        4096,
-        "ask a put x 5/rejected a 1/entry a put x 5",
-        false,
-    ),
-    (
-        "a register shown as closed",
-        4096,
-        "ask a register 1/closed a 1/entry a register 1",
-        false,
-    ),
-    (
-        "a repeat shown as a fresh reply",
-        4096,
-        "ask r register 1/ask a call 1 1 0 add n 1/ask b call 1 1 0 add n 1/registered r 1/done a 2 1/done b 3 2/entry r register 1/entry a call 1 1 0 add n 1/entry b call 1 1 0 add n 1",
-        false,
-    ),
-    (
-        "a repeat that doesn't touch",
-        2,
-        "ask r1 register 11/ask r2 register 22/ask a call 11 1 0 put x 1/ask r3 register 33/ask b call 22 1 0 put x 2/ask c call 11 1 0 put x 1/registered r1 1/registered r2 2/done a 3 -/registered r3 4/done b 5 1/rejected c 6/entry r1 register 11/entry r2 register 22/entry a call 11 1 0 put x 1/entry r3 register 33/entry b call 22 1 0 put x 2/entry c call 11 1 0 put x 1",
-        false,
-    ),
-    (
-        "an evicted client's command as done",
-        1,
-        "ask r register 1/ask s register 2/ask a call 1 1 0 put x 5/registered r 1/registered s 2/done a 3 -/entry r register 1/entry s register 2/entry a call 1 1 0 put x 5",
-        false,
-    ),
-    (
-        "a responded series as done",
-        4096,
-        "ask r register 1/ask a call 1 1 1 put x 5/registered r 1/done a 2 -/entry r register 1/entry a call 1 1 1 put x 5",
-        false,
-    ),
-    (
-        "a repeat from an older session",
-        1,
-        "ask r register 1/ask a call 1 1 0 put x 1/ask s register 2/ask t register 1/ask b call 1 1 0 put x 1/registered r 1/done a 2 -/registered s 3/registered t 4/done b 5 -/entry r register 1/entry a call 1 1 0 put x 1/entry s register 2/entry t register 1/entry b call 1 1 0 put x 1",
+        "ask a put x 5/done a 1 5/entry 1 a put x 5",
         false,
     ),
     (
         "a place equal to a told number",
         4096,
-        "kept 1/ask a put x 5/done a 1 -/entry a put x 5",
-        false,
-    ),
-    (
-        "a place below a told number",
-        4096,
-        "ask a put x 1/done a 2 -/ask b put y 1/done b 1 -/entry b put y 1/entry a put x 1",
-        false,
-    ),
-    (
-        "a front too small",
-        4096,
-        "ask a put x 5/done a 1 -/ask b read get x/read b 0 -/entry a put x 5",
+        "kept 1/ask a put x 5/done a 1 -/entry 1 a put x 5",
         false,
     ),
     (
         "a front below a stale one",
         4096,
-        "stale 1 0 count/ask b read count/read b 0 0/entry - blank",
-        false,
-    ),
-    (
-        "a read with another answer",
-        4096,
-        "ask a put x 5/done a 1 -/ask b read get x/read b 1 -/entry a put x 5",
-        false,
-    ),
-    (
-        "a read of another query",
-        4096,
-        "ask a put x 5/done a 1 -/ask b read get y/read b 1 5/entry a put x 5",
-        false,
-    ),
-    (
-        "a front past the end",
-        4096,
-        "ask b read get x/read b 1 -",
+        "stale 1 0 count/ask b read count/read b 0 0/entry 1 - blank",
         false,
     ),
     (
         "a stale one with another answer",
         4096,
         "stale 0 1 get x",
-        false,
-    ),
-    ("an entry that nobody asked", 4096, "entry a put x 5", false),
-    (
-        "an entry of another text than asked",
-        4096,
-        "ask a put x 5/entry a put x 6",
         false,
     ),
 ];

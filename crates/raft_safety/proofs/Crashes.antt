@@ -1,3 +1,4 @@
 pub mod Crash
+pub mod Left
 pub mod Mark
 pub mod Restart

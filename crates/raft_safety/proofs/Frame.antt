@@ -1,4 +1,6 @@
+pub mod Extends
 pub mod Growth
+pub mod Chosen
 pub mod Common
 pub mod Reigns
 pub mod Hosts

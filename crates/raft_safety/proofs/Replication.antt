@@ -2,6 +2,7 @@ pub mod Sending
 pub mod Extending
 pub mod Laying
 pub mod Taking
+pub mod Matched
 pub mod Committing
 pub mod Append
 pub mod Propose

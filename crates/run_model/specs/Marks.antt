@@ -22,7 +22,7 @@ line_marks g context (lines.Ended key group place ending) = of_group g group (ma
 line_marks g context (lines.Read key group front answer) = of_group g group (marks.Reads context front answer)
 line_marks g context (lines.Dropped key group) = of_group g group (marks.Leaves context)
 line_marks g context (lines.Wire group number from to kind term) = []
-line_marks g context (lines.Entry group entry) = of_group g group (marks.Shows (record { context = context; proposal = entry.proposal }))
+line_marks g context (lines.Entry group entry) = of_group g group (marks.Shows entry.index (record { context = context; proposal = entry.proposal }))
 line_marks g context (lines.Reached limit) = []
 line_marks g context lines.Usage = []
 line_marks g context (lines.BadLine line) = []

@@ -47,3 +47,17 @@ handing_on = election ++ lines_of (codes "ask 2 1 a add n 7" ∷ codes "settle 1
 
 abbrev pub handing_on_printed : List ℕ
 handing_on_printed = elected ++ lines_of (codes "ask a 1 add n 7" ∷ codes "done a 2 7" ∷ codes "entry 1 1 - blank" ∷ codes "entry 1 2 a add n 7" ∷ codes "end" ∷ [])
+
+-- a plain command that is handed on twice acts twice, and its request ends once
+abbrev pub twice : List ℕ
+twice = election ++ lines_of (codes "ask 2 1 a add n 7" ∷ codes "deliver 1 9" ∷ codes "settle 1" ∷ codes "beat 1 1" ∷ codes "settle 1" ∷ codes "end" ∷ [])
+
+abbrev pub twice_printed : List ℕ
+twice_printed = elected ++ lines_of (codes "ask a 1 add n 7" ∷ codes "done a 2 7" ∷ codes "entry 1 1 - blank" ∷ codes "entry 1 2 a add n 7" ∷ codes "entry 1 3 a add n 7" ∷ codes "end" ∷ [])
+
+-- a read while an entry of the log isn't saved: its front is what was applied
+abbrev pub ahead : List ℕ
+ahead = lines_of (codes "host 1" ∷ codes "group 1 regular 1" ∷ codes "timeout 1 1" ∷ codes "settle 1" ∷ codes "ask 1 1 a put x 5" ∷ codes "settle 1" ∷ codes "ask 1 1 b put x 6" ∷ codes "read 1 1 c get x" ∷ codes "end" ∷ [])
+
+abbrev pub ahead_printed : List ℕ
+ahead_printed = lines_of (codes "started 1 1" ∷ codes "leader 1 1 1" ∷ codes "ask a 1 put x 5" ∷ codes "done a 2 -" ∷ codes "ask b 1 put x 6" ∷ codes "ask c 1 read get x" ∷ codes "read c 2 5" ∷ codes "entry 1 1 - blank" ∷ codes "entry 1 2 a put x 5" ∷ codes "end" ∷ [])

@@ -16,7 +16,8 @@ use Rattle.raft_safety.specs.History.{History}
 use Rattle.raft_safety.specs.Replicas.{of_batch, of_replica, IsSecured, IsSound, IsSavedTo}
 use Rattle.raft_safety.specs.Envelopes.{Tells}
 use Rattle.raft_safety.specs.Invariant.{HasAnswer}
-use Rattle.raft_safety.proofs.Frame.Growth.{Grows, within_grown, holds_grown, vote_grown, extends_none}
+use Rattle.raft_safety.proofs.Frame.Extends.{extends_none}
+use Rattle.raft_safety.proofs.Frame.Growth.{Grows, within_grown, holds_grown, vote_grown}
 use Rattle.raft_safety.proofs.Frame.Common.{Adds}
 use Rattle.raft_safety.proofs.Frame.Hosts.{of_leader_grown}
 use Rattle.raft_safety.proofs.Frame.Opened.{SecuredBut, Open, frame}

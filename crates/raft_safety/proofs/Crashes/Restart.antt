@@ -13,20 +13,20 @@ use Rattle.raft_model.specs.declared.event.LaneFault.TheVariants as faults
 use Rattle.raft_model.specs.declared.state.State.{State as Replica}
 use Rattle.raft_model.specs.Replica.{fresh}
 use Rattle.raft_model.specs.Restarting.{log_of, begun_log, begun_commit, restarted, beginning}
-use Rattle.raft_model.specs.Group.{Group, Acted, replica_at, saved_at, is_member, is_up, moved, continued, did, refuses, restarts, merged, term_of}
+use Rattle.raft_model.specs.Group.{Group, Acted, saved_at, is_member, is_up, moved, continued, did, refuses, restarts, term_of}
 use Rattle.raft_safety.specs.History.{History, Agree, SameFrom, MatchesWithin}
 use Rattle.raft_safety.specs.Replicas.{whole}
 use Rattle.raft_safety.specs.Invariant.{Common, Kept}
-use Rattle.raft_safety.specs.Events.{IsLeft, IsAllowedStart}
+use Rattle.raft_safety.specs.Events.{IsAllowedStart}
 use Rattle.raft_safety.proofs.Argument.Agreement.{agree_sym, agree_less, glue, le_or}
 use Rattle.raft_safety.proofs.Argument.Stretches.{from_trans, from_agree}
 use Rattle.raft_safety.proofs.Frame.Words.{commit_step}
 use Rattle.raft_safety.proofs.Argument.WholeLogs.{whole_length, term_whole, decided_place}
 use Rattle.raft_safety.proofs.Frame.Opened.{Open, opened, inv_closed}
 use Rattle.raft_safety.proofs.Frame.Settle.{continued_none}
-use Rattle.raft_safety.proofs.Saving.Stored.{saved_step}
 use Rattle.raft_safety.proofs.Crashes.Mark.{mark_step}
-use Rattle.raft_safety.proofs.Crashes.Crash.{left_replica, numbered, crash_step}
+use Rattle.raft_safety.proofs.Crashes.Crash.{left_replica}
+use Rattle.raft_safety.proofs.Crashes.Left.{Begun, begun}
 use Rattle.raft_safety.proofs.Argument.Decided.{same_reign}
 
 -- a host may be called up or down
@@ -43,24 +43,6 @@ turned_kept {g} v up k =
         wire = i.wire;
       };
     }
-
--- a replica that stands as its saved state does, in some history
-pub record Begun (g : Group) (v : ℕ) (c : Batch) (d : List Entry) (w : List Envelope) : Type 0 where
-  pub history : History
-  pub holds : Open history g v c (left_replica c) d w
-
--- a crash leaves such a replica, with the pending batch saved whole or not at all
-pub begun : {g : Group} {v : ℕ} {h : History} {r : Replica} {d : List Entry} {w : List Envelope} (c : Batch) → v ≢ 0 → r ≡ replica_at g v → IsLeft g v c → Open h g v (saved_at g v) r d w
-    → Begun g v c d w
-begun {g} {v} {h} {r} {d} {w} c some is left o =
-    ⊎_elim
-    (λ same. subst (λ x. Begun g v x d w) (sym same) (record { history = _; holds = crash_step o c.id c.first }))
-    (λ more.
-    let p = more.0 in
-    let saved = saved_step p (ap (λ (x : Replica). x.pending) is ∙ more.1) o [] (λ m on. absurd on) some in
-    subst (λ x. Begun g v x d w) (sym more.2) (subst (λ x. Begun g v (numbered (merged (saved_at g v) p.batch) c.id c.first) d x) (append-nil w)
-    (record { history = _; holds = crash_step saved c.id c.first })))
-    left
 
 -- a log whose term at a place is the decided list's there agrees with it up to that
 place_fits : {voters : List ℕ} {h : History} {d : List Entry} {Sec : ℕ → ℕ → ℕ → Type 0} → Common voters h d Sec → (most : ℕ) (X : List Entry) → MatchesWithin h d most X → (j : ℕ) → 0 < j

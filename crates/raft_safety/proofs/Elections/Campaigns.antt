@@ -9,7 +9,8 @@ use Rattle.raft_model.specs.Group.{Group, term_of}
 use Rattle.raft_safety.specs.History.{History}
 use Rattle.raft_safety.specs.Replicas.{whole}
 use Rattle.raft_safety.specs.Invariant.{IsLost, IsDecided, IsHost, HasAnswer}
-use Rattle.raft_safety.proofs.Frame.Growth.{Grows, vote_grown, extends_none}
+use Rattle.raft_safety.proofs.Frame.Extends.{extends_none}
+use Rattle.raft_safety.proofs.Frame.Growth.{Grows, vote_grown}
 use Rattle.raft_safety.proofs.Frame.Common.{Adds, IsBegun}
 use Rattle.raft_safety.proofs.Frame.Hosts.{host_grown, told_grown}
 use Rattle.raft_safety.proofs.Frame.Opened.{SecuredBut, Open, frame}

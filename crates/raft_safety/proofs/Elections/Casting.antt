@@ -11,7 +11,8 @@ use Rattle.raft_safety.specs.History.{History}
 use Rattle.raft_safety.specs.Replicas.{Stage, of_batch, of_replica, to_be_saved, IsSound}
 use Rattle.raft_safety.specs.Envelopes.{Tells, TellsAll}
 use Rattle.raft_safety.specs.Invariant.{IsVote, IsHost, HasAnswer}
-use Rattle.raft_safety.proofs.Frame.Growth.{Grows, within_grown, vote_grown, extends_none}
+use Rattle.raft_safety.proofs.Frame.Extends.{extends_none}
+use Rattle.raft_safety.proofs.Frame.Growth.{Grows, within_grown, vote_grown}
 use Rattle.raft_safety.proofs.Frame.Common.{Adds}
 use Rattle.raft_safety.proofs.Frame.Hosts.{sound_grown, tells_grown, tells_all_grown}
 use Rattle.raft_safety.proofs.Frame.Opened.{SecuredBut, Open, frame}

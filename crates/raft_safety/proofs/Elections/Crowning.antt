@@ -17,7 +17,8 @@ use Rattle.raft_safety.specs.Replicas.{Stage, whole, of_batch, of_replica, to_be
 use Rattle.raft_safety.specs.Invariant.{IsReign, IsVote, IsLost, IsHost, HasAnswer}
 use Rattle.raft_safety.proofs.Argument.Quorums.{in_both}
 use Rattle.raft_safety.proofs.Argument.Elected.{elected_strict}
-use Rattle.raft_safety.proofs.Frame.Growth.{Grows, strict_grown, vote_grown, extends_none}
+use Rattle.raft_safety.proofs.Frame.Extends.{extends_none}
+use Rattle.raft_safety.proofs.Frame.Growth.{Grows, strict_grown, vote_grown}
 use Rattle.raft_safety.proofs.Frame.Common.{Adds}
 use Rattle.raft_safety.proofs.Frame.Hosts.{sound_grown, tells_grown, tells_all_grown}
 use Rattle.raft_safety.proofs.Frame.Opened.{SecuredBut, Open, frame}

@@ -1,14 +1,16 @@
 -- The sentences that name no host's replica, after an event at one host.
 use Rattle.std.proofs.Common.{◌≡◌, ◌≢◌, ◌⊎◌, ⊎_elim, ℕ, ◌<◌, ◌≤◌, List, length, true, refl, sym, ap, ◌∙◌, subst, arith, inl, inr}
-use Rattle.std.proofs.lemmas.Bool.{cases_eq, leb-true, le-leb}
+use Rattle.std.proofs.lemmas.Bool.{cases_eq}
 use Rattle.host_ids.specs.declared.entry.Entry.{Entry}
 use Rattle.raft_model.specs.Roster.{is_majority}
 use Rattle.raft_model.specs.Group.{term_of}
-use Rattle.raft_safety.specs.History.{Reign, History, IsLed, Agree, has_answered, IsChosen}
+use Rattle.raft_safety.specs.History.{Reign, History, IsLed, Agree, IsChosen}
 use Rattle.raft_safety.specs.Invariant.{Common, IsReign, LaterKeep, IsDecided, IsVote, IsLost, IsBounded, IsLevel}
 use Rattle.raft_safety.proofs.Argument.Agreement.{agree_sym, agree_trans, agree_less, term_agree, le_or}
-use Rattle.raft_safety.proofs.Argument.Quorums.{in_both, majority_more}
-use Rattle.raft_safety.proofs.Frame.Growth.{Extends, IsNew, IsLast, Grows, extends_term, extends_agree, own_extends, vote_grown, lost_grown, answer_more}
+use Rattle.raft_safety.proofs.Argument.Quorums.{in_both}
+use Rattle.raft_safety.proofs.Frame.Extends.{Extends, extends_term}
+use Rattle.raft_safety.proofs.Frame.Chosen.{chosen_grown}
+use Rattle.raft_safety.proofs.Frame.Growth.{IsNew, IsLast, Grows, extends_agree, vote_grown, lost_grown}
 
 -- a campaign that begins with this event
 pub record IsBegun (k : History) (e : List Entry) (t c : ℕ) : Type 0 where
@@ -30,15 +32,6 @@ pub record Adds (voters : List ℕ) (v : ℕ) (h k : History) (d e : List Entry)
 
 module _ {voters : List ℕ} {v : ℕ} {h k : History} {d e : List Entry} {Secured SecuredNow Answers AnswersNow : ℕ → ℕ → ℕ → Type 0}
     (i : Common voters h d Secured) (g : Grows v h k d e Secured SecuredNow Answers AnswersNow) where
-  -- a chosen place stays chosen
-  chosen_grown : {R S : Reign} {n : ℕ} → Extends R S → IsChosen voters h R n → IsChosen voters k S n
-  chosen_grown {R} {S} {n} x c = record {
-    own = own_extends x c.own;
-    answered = majority_more voters (has_answered h R n) (has_answered k S n)
-        (λ u t. le-leb n (k.answer u S.term) (let q : k.answer u S.term ≡ k.answer u R.term = ap (k.answer u) x.term in
-        omega (arith, q, leb-true n (h.answer u R.term) t, answer_more i g u R.term))) c.answered;
-  }
-
   -- a decided place stays decided, by the same reign
   decided_grown : {n : ℕ} → n ≤ length d → (k.decided_in n ≡ h.decided_in n) × (k.reach n ≡ h.reach n) → IsDecided voters h d n → IsDecided voters k e n
   decided_grown {n} m same q =
@@ -48,7 +41,7 @@ module _ {voters : List ℕ} {v : ℕ} {h k : History} {d e : List Entry} {Secur
         led = f.led;
         term = f.extends.term ∙ q.term ∙ sym same.0;
         reach = omega (arith, q.reach, same.1);
-        chosen = subst (λ r. IsChosen voters k f.reign r) (sym same.1) (chosen_grown f.extends q.chosen);
+        chosen = subst (λ r. IsChosen voters k f.reign r) (sym same.1) (chosen_grown i g f.extends q.chosen);
         same = extends_agree f.extends (agree_trans (agree_less n m g.decided) q.same);
       }
 

@@ -7,15 +7,7 @@ use Rattle.raft_safety.specs.History.{Reign, History, IsLed, Agree, SameFrom, Is
 use Rattle.raft_safety.specs.Invariant.{Common, IsVote, Saw, IsLost}
 use Rattle.raft_safety.proofs.Argument.Agreement.{agree_sym, agree_trans, agree_less, term_agree, le_or}
 use Rattle.raft_safety.proofs.Argument.Decided.{same_reign}
-
--- a reign later: the same one, whose leader has appended entries of its term
-pub record Extends (R S : Reign) : Type 0 where
-  pub term : S.term ≡ R.term
-  pub leader : S.leader ≡ R.leader
-  pub quorum : S.quorum ≡ R.quorum
-  pub order : S.order ≡ R.order
-  pub log : Agree (length R.log) S.log R.log
-  pub new : (k : ℕ) → length R.log < k → k ≤ length S.log → term_of S.log k ≡ R.term
+use Rattle.raft_safety.proofs.Frame.Extends.{Extends, extends_term}
 
 -- among these reigns a reign stands, perhaps longer
 pub record Later (reigns : List Reign) (R : Reign) : Type 0 where
@@ -65,14 +57,6 @@ pub record Grows (v : ℕ) (h k : History) (d e : List Entry) (Secured SecuredNo
 pub never_true : (b : Bool) → (b ≡ true → ⊥) → b ≡ false
 never_true true wrong = absurd (wrong refl)
 never_true false wrong = refl
-
--- a reign is itself later
-pub extends_none : (R : Reign) → Extends R R
-extends_none R = record { term = refl; leader = refl; quorum = refl; order = refl; log = record { left = omega arith; right = omega arith; same = refl }; new = λ n a b. absurd (omega (arith, a, b)) }
-
--- a place of a reign keeps its term
-pub extends_term : {R S : Reign} (n : ℕ) → Extends R S → n ≤ length R.log → term_of S.log n ≡ term_of R.log n
-extends_term {R} {S} n x m = term_agree n x.log m
 
 -- a list that agrees with a reign's log agrees with it later
 pub extends_agree : {R S : Reign} {n : ℕ} {X : List Entry} → Extends R S → Agree n X R.log → Agree n X S.log

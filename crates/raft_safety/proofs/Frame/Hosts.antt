@@ -14,7 +14,8 @@ use Rattle.raft_safety.specs.Replicas.{Stage, whole, of_batch, of_replica, to_be
 use Rattle.raft_safety.specs.Envelopes.{IsOfLeader, Tells, TellsAll}
 use Rattle.raft_safety.specs.Invariant.{Common, IsHost, IsTold}
 use Rattle.raft_safety.proofs.Argument.Agreement.{agree_sym, agree_less, term_agree}
-use Rattle.raft_safety.proofs.Frame.Growth.{Extends, Grows, extends_term, extends_agree, agree_decided, within_grown, holds_grown, old_grown, counted_at, keeps_extended}
+use Rattle.raft_safety.proofs.Frame.Extends.{Extends, extends_term}
+use Rattle.raft_safety.proofs.Frame.Growth.{Grows, extends_agree, agree_decided, within_grown, holds_grown, old_grown, counted_at, keeps_extended}
 use Rattle.raft_safety.proofs.Argument.WholeLogs.{decided_longer}
 
 -- a longer log holds the same entries above a place within the shorter one

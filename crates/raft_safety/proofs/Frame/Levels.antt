@@ -3,7 +3,8 @@ use Rattle.std.proofs.Common.{◌≡◌, ◌≢◌, ⊎_elim, ℕ, ◌≤◌, Li
 use Rattle.host_ids.specs.declared.entry.Entry.{Entry}
 use Rattle.raft_safety.specs.History.{History}
 use Rattle.raft_safety.specs.Invariant.{Common}
-use Rattle.raft_safety.proofs.Frame.Growth.{Grows, vote_grown, extends_none}
+use Rattle.raft_safety.proofs.Frame.Extends.{extends_none}
+use Rattle.raft_safety.proofs.Frame.Growth.{Grows, vote_grown}
 use Rattle.raft_safety.proofs.Frame.Reigns.{later_grown, aligned_same}
 use Rattle.raft_safety.proofs.Frame.Common.{Adds}
 use Rattle.raft_safety.proofs.Frame.Tables.{at_host, at_mine, at_other}

@@ -12,7 +12,8 @@ use Rattle.raft_model.specs.Group.{Group, replica_at, saved_at, nothing_saved, i
 use Rattle.raft_safety.specs.History.{History}
 use Rattle.raft_safety.specs.Replicas.{IsSecured}
 use Rattle.raft_safety.specs.Invariant.{Common, IsHost, IsTold, IsOnWire, HasAnswer, HasTables, Secured, Inv, Kept}
-use Rattle.raft_safety.proofs.Frame.Growth.{Grows, vote_grown, extends_none}
+use Rattle.raft_safety.proofs.Frame.Extends.{extends_none}
+use Rattle.raft_safety.proofs.Frame.Growth.{Grows, vote_grown}
 use Rattle.raft_safety.proofs.Frame.Common.{Adds, common_grown}
 use Rattle.raft_safety.proofs.Frame.Hosts.{host_grown, told_grown}
 

@@ -4,7 +4,8 @@ use Rattle.host_ids.specs.declared.entry.Entry.{Entry}
 use Rattle.raft_safety.specs.History.{Reign, History, IsLed, Agree, IsOwn, IsSafe}
 use Rattle.raft_safety.specs.Invariant.{Common, LaterKeep}
 use Rattle.raft_safety.proofs.Argument.Agreement.{agree_sym}
-use Rattle.raft_safety.proofs.Frame.Growth.{Extends, Later, Earlier, Grows, extends_agree, extends_own, safe_back, told_in, told_new, told_back, outside, extends_none}
+use Rattle.raft_safety.proofs.Frame.Extends.{Extends, extends_none}
+use Rattle.raft_safety.proofs.Frame.Growth.{Later, Earlier, Grows, extends_agree, extends_own, safe_back, told_in, told_new, told_back, outside}
 
 -- the same reigns in the same order, some of them longer
 abbrev pub Aligned : List Reign → List Reign → Type 0

@@ -18,7 +18,8 @@ use Rattle.raft_safety.specs.Replicas.{Stage, whole, of_batch, of_replica, to_be
 use Rattle.raft_safety.specs.Envelopes.{TellsAll}
 use Rattle.raft_safety.specs.Invariant.{Common, IsHost, HasAnswer}
 use Rattle.raft_safety.proofs.Argument.Agreement.{agree_sym, agree_trans, agree_less, agree_none, agree_longer, term_agree, le_or}
-use Rattle.raft_safety.proofs.Frame.Growth.{Extends, IsLast, Grows, extends_own, vote_grown, counted_at, old_grown, old_less, extends_none}
+use Rattle.raft_safety.proofs.Frame.Extends.{Extends, extends_none}
+use Rattle.raft_safety.proofs.Frame.Growth.{IsLast, Grows, extends_own, vote_grown, counted_at, old_grown, old_less}
 use Rattle.raft_safety.proofs.Frame.Reigns.{Aligned, aligned_forward, aligned_back, later_grown}
 use Rattle.raft_safety.proofs.Frame.Common.{Adds, common_grown}
 use Rattle.raft_safety.proofs.Frame.Hosts.{sound_grown, tells_grown, tells_all_grown}

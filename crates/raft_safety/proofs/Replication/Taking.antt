@@ -13,7 +13,8 @@ use Rattle.raft_safety.specs.Replicas.{Stage, whole, of_batch, of_replica, to_be
 use Rattle.raft_safety.specs.Invariant.{IsDecided, HasAnswer}
 use Rattle.raft_safety.proofs.Argument.Agreement.{agree_sym, agree_trans, agree_less, agree_none, term_agree, glue, le_or}
 use Rattle.raft_safety.proofs.Argument.Decided.{decided_safe, same_reign}
-use Rattle.raft_safety.proofs.Frame.Growth.{IsLast, Grows, vote_grown, within_grown, extends_none}
+use Rattle.raft_safety.proofs.Frame.Extends.{extends_none}
+use Rattle.raft_safety.proofs.Frame.Growth.{IsLast, Grows, vote_grown, within_grown}
 use Rattle.raft_safety.proofs.Frame.Reigns.{later_grown, aligned_same}
 use Rattle.raft_safety.proofs.Frame.Common.{Adds}
 use Rattle.raft_safety.proofs.Frame.Hosts.{sound_grown}

@@ -1,0 +1,5 @@
+-- A desk that fits, and its moves where a request opens and where entries are given to a cell.
+pub mod Fits
+pub mod Opening
+pub mod Endings
+pub mod Applies

@@ -1,0 +1,3 @@
+-- A whole run's output is legal, whatever the roster.
+pub mod Legal
+pub mod EveryRoster

@@ -1,0 +1,191 @@
+-- What is known of a line that declares a group: each voter is a host, and a limit is positive.
+use Rattle.std.proofs.Common.{◌≡◌, ◌≤◌, ◌<◌, ◌+◌, ◌-◌, ℕ, ◌==◌, List, [], ◌∷◌, ◌++◌, Bool, true, false, Option, Some, None, cond, length, arith, leb-true}
+use Rattle.std.specs.Prelude.{codes, is_some, nat_lt, nat_le, ◌&&◌, ◌||◌}
+use Rattle.std.proofs.lemmas.Bool.{cond_both, eqb-false, and_parts, ltb-true}
+use Rattle.object_model.specs.Words.{words_of, word, begins, is_name, number_of}
+use Rattle.object_model.specs.Command.{command_of, query_of, most_number}
+use Rattle.run_model.specs.declared.script.ScriptLine.{ScriptLine}
+use Rattle.run_model.specs.declared.script.ScriptLine.TheVariants as script
+use Rattle.run_model.specs.declared.script.HostEvent.{HostEvent}
+use Rattle.run_model.specs.declared.script.Setup.{Setup}
+use Rattle.run_model.specs.Script
+use Rattle.run_model.specs.Script.{read_line, says, behind_four, behind_seven}
+use Rattle.run_law.proofs.Basics.Lists.{all_append}
+use Rattle.run_law.proofs.Group.Law.{AreHosts}
+
+-- a limit of a group's own is positive
+abbrev pub IsPositive : Option ℕ → Type 0
+IsPositive None = Unit {0}
+IsPositive (Some limit) = 1 ≤ limit
+
+-- a line is good: a group's voters are hosts, its own limit is positive, and a read stands where reads may be
+abbrev pub IsGood : Setup → ScriptLine → Type 0
+IsGood setup script.Skipped = Unit {0}
+IsGood setup script.End = Unit {0}
+IsGood setup (script.Host host) = Unit {0}
+IsGood setup (script.Group group kind roster limit) = AreHosts roster × IsPositive limit
+IsGood setup (script.Event host event) = Unit {0}
+IsGood setup (script.Deliver group number) = Unit {0}
+IsGood setup (script.Ask host group context command) = Unit {0}
+IsGood setup (script.Read host group context query) = Script.may_read setup ≡ true
+IsGood setup (script.Register host group context session client) = Unit {0}
+IsGood setup (script.Call host context session command) = Unit {0}
+IsGood setup (script.Again host context session) = Unit {0}
+IsGood setup (script.Completed session) = Unit {0}
+IsGood setup (script.Close host context session) = Unit {0}
+IsGood setup (script.Raw host group context client series responded command) = Unit {0}
+IsGood setup (script.Settle group) = Unit {0}
+IsGood setup (script.Lose group) = Unit {0}
+IsGood setup (script.Wire group number) = Unit {0}
+
+-- a line that is one is good
+abbrev pub Said : Setup → Option ScriptLine → Type 0
+Said setup None = Unit {0}
+Said setup (Some line) = IsGood setup line
+
+module _ (setup : Setup) where
+  -- of two readings that are good, the one that a test chooses is good
+  by_cond : (b : Bool) (x y : Option ScriptLine) → Said setup x → Said setup y → Said setup (cond b x y)
+  by_cond b x y p q = cond_both b x y (Said setup) (λ _. p) (λ _. q)
+
+  -- a good line that stands only where a test passes is good
+  so : (b : Bool) (line : ScriptLine) → IsGood setup line → Said setup (Script.if_so b line)
+  so b line p = by_cond b (Some line) None p tt
+
+  -- a read is a line where reads may be
+  read_so : (host : ℕ) (words : List (List ℕ)) (text : List ℕ) → Said setup (Script.read_request setup host words text)
+  read_so host words text =
+      let named = is_name (word words 3) 16 in
+      cond_both ((Script.may_read setup && named) && is_some (query_of text)) (Some (script.Read host 1 (word words 3) text)) None (Said setup)
+      (λ e. (and_parts (Script.may_read setup) named (and_parts (Script.may_read setup && named) (is_some (query_of text)) e).0).0)
+      (λ _. tt)
+
+  -- what is said by a number is good, if it is so by each number
+  by_number : (o : Option ℕ) (said : ℕ → Option ScriptLine) → ((n : ℕ) → Said setup (said n)) → Said setup (Script.by_number o said)
+  by_number None said p = tt
+  by_number (Some n) said p = p n
+
+  -- ---- the group
+
+  -- a number that is positive, where there is one
+  positive_by : (o : Option ℕ) (said : ℕ → Option ScriptLine) → ((n : ℕ) → 1 ≤ n → Said setup (said n)) → Said setup (Script.by_number (Script.positive o) said)
+  positive_by None said p = tt
+  positive_by (Some n) said p = cond_both (n == 0) None (Some n) (λ (o : Option ℕ). Said setup (Script.by_number o said)) (λ _. tt) (λ e. p n (omega (arith, eqb-false n 0 e)))
+
+  -- hosts that were read, where they were
+  abbrev Read : Option (List ℕ) → Type 0
+  Read None = Unit {0}
+  Read (Some hosts) = AreHosts hosts
+
+  -- the digit of a later host is one of 1 to 9
+  later_host : (low b : ℕ) → Script.is_later low b ≡ true → (0 < b - 48) × (b - 48 < 10)
+  later_host low b e =
+      let both = and_parts (nat_lt (low + 48) b) (nat_le b 57) e in
+      let m : low + 48 < b = ltb-true (low + 48) b both.0 in
+      let l : b ≤ 57 = leb-true b 57 both.1 in
+      (omega (arith, m), omega (arith, l))
+
+  -- where the voters found so far are hosts, all that are read are hosts
+  roster_read : (after : Bool) (low : ℕ) (found text : List ℕ) → AreHosts found → Read (Script.roster_on after low found text)
+  roster_read after low found [] p = cond_both after (Some found) None Read (λ _. p) (λ _. tt)
+  roster_read after low found (b ∷ bs) p =
+      cond_both after _ _ Read
+      (λ _. cond_both (b == 44) (Script.roster_on false low found bs) None Read (λ _. roster_read false low found bs p) (λ _. tt))
+      (λ _. cond_both (Script.is_later low b) (Script.roster_on true (b - 48) (found ++ (b - 48) ∷ []) bs) None Read
+      (λ e. roster_read true (b - 48) (found ++ (b - 48) ∷ []) bs (all_append (λ (v : ℕ). (0 < v) × (v < 10)) found ((b - 48) ∷ []) p (later_host low b e, tt))) (λ _. tt))
+
+  -- voters that were read are hosts, also where they may be no more than seven
+  few_read : (o : Option (List ℕ)) → Read o → Read (Script.few_of o)
+  few_read None p = tt
+  few_read (Some hosts) p = cond_both (nat_le (length hosts) 7) (Some hosts) None Read (λ _. p) (λ _. tt)
+
+  -- the line of a group is good, if its voters are hosts and its own limit is positive
+  group_by_said : (o : Option (List ℕ)) (limit : Option ℕ) → Read o → IsPositive limit → Said setup (Script.group_by o limit)
+  group_by_said None limit p q = tt
+  group_by_said (Some roster) limit p q = (p, q)
+
+  -- a line that declares a group is good
+  group_said : (words : List (List ℕ)) → Said setup (Script.group_line words)
+  group_said words =
+      let o = Script.roster_of (word words 3) in
+      let r = few_read (Script.roster_on false 0 [] (word words 3)) (roster_read false 0 [] (word words 3) tt) in
+      by_cond (Script.is_group words 1 && says words 2 (codes "regular")) _ _
+      (by_cond (length words == 4) _ _ (group_by_said o None r tt)
+      (by_cond (length words == 5) _ _ (positive_by (number_of 4096 (word words 4)) _ (λ limit l. group_by_said o (Some limit) r l)) tt))
+      tt
+
+  -- ---- the other lines
+
+  -- the line of an event is good
+  event_by_said : (host : ℕ) (o : Option HostEvent) → Said setup (Script.event_by host o)
+  event_by_said host None = tt
+  event_by_said host (Some event) = tt
+
+  -- a line that names an event, a host and the group is good
+  event_said : (host : ℕ) (words : List (List ℕ)) → Said setup (Script.event_line host words)
+  event_said host words =
+      by_cond (length words == 3) _ _ (event_by_said host (Script.event_of words))
+      (by_cond (begins words 4 (codes "apply")) _ _ (positive_by (number_of 200000 (word words 3)) _ (λ most l. tt)) tt)
+
+  -- a `raw` line with these numbers is good
+  raw_by_said : (host : ℕ) (words : List (List ℕ)) (text : List ℕ) (client series responded : Option ℕ) → Said setup (Script.raw_by host words text client series responded)
+  raw_by_said host words text None series responded = tt
+  raw_by_said host words text (Some client) None responded = tt
+  raw_by_said host words text (Some client) (Some series) None = tt
+  raw_by_said host words text (Some client) (Some series) (Some responded) = by_cond ((client == 0) || (series == 0)) _ _ tt tt
+
+  -- a `raw` line is good
+  raw_said : (host : ℕ) (words : List (List ℕ)) (text : List ℕ) → Said setup (Script.raw_line host words text)
+  raw_said host words text =
+      by_cond (Script.is_named words 3 && is_some (command_of text)) _ _
+      (raw_by_said host words text (number_of most_number (word words 4)) (number_of Script.most_series (word words 5)) (number_of Script.most_series (word words 6))) tt
+
+  -- a `register` line is good
+  register_said : (host : ℕ) (words : List (List ℕ)) → Said setup (Script.register_line host words)
+  register_said host words = by_cond (Script.is_named words 3 && Script.is_named words 4) _ _ (positive_by (number_of most_number (word words 5)) _ (λ client l. tt)) tt
+
+  -- a line that names a host and the group is good
+  replica_said : (host : ℕ) (words : List (List ℕ)) (line : List ℕ) → Said setup (Script.replica_line setup host words line)
+  replica_said host words line =
+      by_cond (says words 0 (codes "ask")) _ _ (so _ (script.Ask host 1 (word words 3) (behind_four line)) tt)
+      (by_cond (says words 0 (codes "read")) _ _ (read_so host words (behind_four line))
+      (by_cond (begins words 6 (codes "register")) _ _ (register_said host words)
+      (by_cond (says words 0 (codes "raw")) _ _ (raw_said host words (behind_seven line)) (event_said host words))))
+
+  -- a line that names a host and a session is good
+  session_said : (host : ℕ) (words : List (List ℕ)) (line : List ℕ) → Said setup (Script.session_line host words line)
+  session_said host words line =
+      by_cond (says words 0 (codes "call")) _ _ (so _ (script.Call host (word words 2) (word words 3) (behind_four line)) tt)
+      (by_cond (begins words 4 (codes "again")) _ _ (so _ (script.Again host (word words 2) (word words 3)) tt)
+      (by_cond (begins words 4 (codes "close")) _ _ (so _ (script.Close host (word words 2) (word words 3)) tt) tt))
+
+  -- a line that names a host first is good
+  at_said : (host : ℕ) (words : List (List ℕ)) (line : List ℕ) → Said setup (Script.line_at setup host words line)
+  at_said host words line =
+      by_cond (Script.is_session_verb words) _ _ (session_said host words line)
+      (by_cond (Script.is_group words 2) _ _ (replica_said host words line) tt)
+
+  -- a line that names the group alone is good
+  wire_said : (words : List (List ℕ)) → Said setup (Script.wire_lines words)
+  wire_said words =
+      by_cond (begins words 2 (codes "settle")) _ _ tt
+      (by_cond (begins words 2 (codes "lose")) _ _ tt
+      (by_cond (begins words 3 (codes "deliver")) _ _ (by_number (number_of most_number (word words 2)) _ (λ number. tt))
+      (by_cond (begins words 3 (codes "wire")) _ _ (by_number (number_of most_number (word words 2)) _ (λ number. tt)) tt)))
+
+  -- a line that is read by its words is good
+  words_said : (words : List (List ℕ)) (line : List ℕ) → Said setup (Script.said_in setup words line)
+  words_said words line =
+      by_cond (begins words 2 (codes "host")) _ _ (by_number (Script.host_at words 1) _ (λ host. tt))
+      (by_cond (says words 0 (codes "group")) _ _ (group_said words)
+      (by_cond (begins words 2 (codes "completed")) _ _ (so _ (script.Completed (word words 1)) tt)
+      (by_cond (Script.is_wire_verb words) _ _ (by_cond (Script.is_group words 1) _ _ (wire_said words) tt)
+      (by_number (Script.host_at words 1) _ (λ host. at_said host words line)))))
+
+  -- what a line is is good
+  pub read_said : (line : List ℕ) → Said setup (read_line setup line)
+  unfolding read_line
+  read_said line =
+      by_cond (nat_lt 4096 (length line)) _ _ tt
+      (by_cond (Script.is_skipped line) _ _ tt
+      (by_cond (begins (words_of line) 1 (codes "end")) _ _ tt (words_said (words_of line) line)))

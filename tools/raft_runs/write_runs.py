@@ -1,15 +1,17 @@
-"""Writes the runs of `raft_model`: their events and what they give, as modules of its specs.
+"""Writes the runs of `raft_runs`: their events and what they give, as modules of its specs.
 
     python3 tools/raft_runs/write_runs.py
 
-Then `rt fmt` in `crates/raft_model`. The expected values come from `step_table.py`.
+Then `rt fmt` in `crates/raft_runs`. The expected values come from `step_table.py`.
 """
 
 import os
 
 from schedules import drawn, worked
 
-SPECS = os.path.join(os.path.dirname(__file__), "..", "..", "crates", "raft_model", "specs")
+SPECS = os.path.join(os.path.dirname(__file__), "..", "..", "crates", "raft_runs", "specs")
+
+HEAD = "-- Written by `python3 tools/raft_runs/write_runs.py`, and then laid out by `rt fmt`. Not to be edited by hand."
 
 RUNS = [
     ("Followed", "A proposal and a read that a follower hands on to the leader, at three voters."),
@@ -147,7 +149,7 @@ def imports(body):
         (own + "declared.role.Role.TheVariants as roles", True),
         (own + "Group.{Group, fresh_group}", True),
         (own + "Replica.{no_key}", "no_key" in body),
-        (own + "Runs.{%s}" % ", ".join(words), True),
+        ("Rattle.raft_runs.specs.Runs.{%s}" % ", ".join(words), True),
     ]
     return "".join("use %s\n" % name for name, used in uses if used)
 
@@ -155,7 +157,7 @@ def imports(body):
 def write(name, comment, group, events):
     body = definitions(group, events)
     with open(os.path.join(SPECS, name + ".antt"), "w", encoding="utf-8") as module:
-        module.write("-- %s\n%s%s" % (comment, imports(body), body))
+        module.write("%s\n-- %s\n%s%s" % (HEAD, comment, imports(body), body))
 
 
 if __name__ == "__main__":

@@ -1,8 +1,8 @@
 -- What the events make of the group.
-use Rattle.std.proofs.Common.{◌≡◌, ◌≤◌, ◌<◌, ◌∙◌, ℕ, zero, suc, List, [], ◌∷◌, true, false, refl, arith, sym, ap, length, if◌then◌else◌, Option, Some, None}
+use Rattle.std.proofs.Common.{◌≡◌, ◌≤◌, ◌<◌, ℕ, zero, suc, List, [], ◌∷◌, true, false, refl, arith, sym, length, if◌then◌else◌, Option, Some, None}
 use Rattle.std.proofs.lemmas.List.{append-nil}
 use Rattle.std.proofs.lemmas.Bool.Decides.{nat_tests}
-use Rattle.std.specs.Prelude.{not, ◌==◌, ◌||◌, is_some, slice_index_or, slice_set}
+use Rattle.std.specs.Prelude.{not, ◌==◌, ◌||◌, slice_index_or, slice_set}
 use Rattle.std.specs.Option.{option_map}
 use Rattle.std.specs.List.{All, list_any}
 use Rattle.host_ids.specs.declared.entry.Batch.{Batch}
@@ -10,18 +10,13 @@ use Rattle.host_ids.specs.declared.entry.Entry.{Entry}
 use Rattle.raft_model.specs.declared.event.LaneFault.TheVariants as faults
 use Rattle.raft_model.specs.declared.note.Note.TheVariants as notes
 use Rattle.raft_model.specs.declared.state.State.{State}
-use Rattle.raft_model.specs.Replica.{fresh}
 use Rattle.raft_model.specs.Saving.{may_give, batch_of, gave_batch}
 use Rattle.raft_model.specs.Step.{ready, after_ready}
 use Rattle.raft_model.specs.Group.{Group, Acted, replica_at, continued, moved, did, readies, is_member, is_up, at_up, refuses}
-use Rattle.group_world.specs.Events.{host_refusal, batch_notes}
+use Rattle.raft_model.specs.Given.{host_refusal}
+use Rattle.group_world.specs.Events.{batch_notes}
 
 -- ---- tables
-
-set_same : {A : Type 0} (xs : List A) (h : ℕ) (d : A) → h < length xs → slice_set xs h (slice_index_or xs h d) ≡ xs
-set_same [] h d l = absurd (omega (arith, l))
-set_same (x ∷ xs) zero d l = refl
-set_same (x ∷ xs) (suc h) d l = ap (λ q. x ∷ q) (set_same xs h d (omega (arith, l)))
 
 pub any_default : {A : Type 0} (xs : List A) (h : ℕ) (d e : A) → h < length xs → slice_index_or xs h d ≡ slice_index_or xs h e
 any_default [] h d e l = absurd (omega (arith, l))
@@ -43,20 +38,20 @@ member g h e = elim (is_member g h) as (λ b. (if not b then Some faults.NotMemb
 
 -- ---- Ready
 
-pub ready_group : (g : Group) (h : ℕ) (states : List State) (decided : List Entry) → h < length g.replicas
+pub ready_group : (g : Group) (h : ℕ) (states : List State) (decided : List Entry)
     → states ≡ slice_set g.replicas h (after_ready (replica_at g h))
-    → decided ≡ (if is_some (ready (replica_at g h)) then continued g.decided (after_ready (replica_at g h)) else g.decided)
+    → decided ≡ continued g.decided (after_ready (replica_at g h))
     → record g { replicas = states; decided = decided } ≡ (readies g h).group
-ready_group g h states decided l =
+ready_group g h states decided =
     let r = replica_at g h in
     elim (may_give r) as
     (λ b.
     let batch : Option Batch = if b then Some (batch_of r) else None in
     let after : State = if b then gave_batch r else r in
-    let acted : Acted = elim batch as (λ _. Acted) [ None ↦ did g (notes.Idle ∷ []) | Some x ↦ did (moved g h after []) (notes.Pending h x.id ∷ []) ] in
-    states ≡ slice_set g.replicas h after → decided ≡ (if is_some batch then continued g.decided after else g.decided) → record g { replicas = states; decided = decided } ≡ acted.group) [
+    let acted : Acted = elim batch as (λ _. Acted) [ None ↦ did (moved g h r []) (notes.Idle ∷ []) | Some x ↦ did (moved g h after []) (notes.Pending h x.id ∷ []) ] in
+    states ≡ slice_set g.replicas h after → decided ≡ continued g.decided after → record g { replicas = states; decided = decided } ≡ acted.group) [
       | true ↦ λ a c. λ i. record g { replicas = a i; wire = sym (append-nil g.wire) i; decided = c i }
-      | false ↦ λ a c. λ i. record g { replicas = (a ∙ set_same g.replicas h fresh l) i; decided = c i }
+      | false ↦ λ a c. λ i. record g { replicas = a i; wire = sym (append-nil g.wire) i; decided = c i }
     ]
 
 pub ready_notes : (g : Group) (h : ℕ) → batch_notes h (option_map (λ b. b.id) (ready (replica_at g h))) ≡ (readies g h).notes
@@ -66,7 +61,7 @@ ready_notes g h =
     (λ b.
     let batch : Option Batch = if b then Some (batch_of r) else None in
     let after : State = if b then gave_batch r else r in
-    let acted : Acted = elim batch as (λ _. Acted) [ None ↦ did g (notes.Idle ∷ []) | Some x ↦ did (moved g h after []) (notes.Pending h x.id ∷ []) ] in
+    let acted : Acted = elim batch as (λ _. Acted) [ None ↦ did (moved g h r []) (notes.Idle ∷ []) | Some x ↦ did (moved g h after []) (notes.Pending h x.id ∷ []) ] in
     batch_notes h (option_map (λ b. b.id) batch) ≡ acted.notes)
     [ true ↦ refl | false ↦ refl ]
 

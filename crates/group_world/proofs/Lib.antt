@@ -1,3 +1,6 @@
+mod Ranges
 mod Tables
 mod Events
 mod Refused
+mod Lost
+mod Given

@@ -1,26 +1,28 @@
-ghost use Rattle.std.specs.Prelude.{◌≡◌, ◌≤◌, ◌<◌, ◌+◌, ◌-◌, ◌&&◌, not, length, take, drop, true, false, Some, None, Err, OnOk, IfOk, IfErr, IfSome, OnSome};
+ghost use Rattle.std.specs.Prelude.{◌≡◌, ◌≤◌, ◌<◌, ◌+◌, ◌-◌, ◌^◌, ◌&&◌, not, length, take, drop, true, false, Some, None, Err, OnOk, OnErr, IfOk, IfErr, IfSome, OnSome};
 ghost use Rattle.std.specs.List.{All};
 ghost use Rattle.std.specs.Option.{option_copied, option_map};
 ghost use Rattle.log_view.specs.Log.{last, slice, term_there};
 ghost use Rattle.raft_model.specs.Fit.{are_fit};
 ghost use Rattle.raft_model.specs.Replica.{is_changed, ripe};
 ghost use Rattle.raft_model.specs.Saving.{is_stuck};
+ghost use Rattle.raft_model.specs.Allowed.{is_allowed};
 ghost use Rattle.raft_model.specs.Group.{act, fresh_group, replica_at, envelope_at, is_member};
 ghost use Rattle.raft_model.specs.declared.event.LaneFault.TheVariants as faults;
+ghost use Rattle.raft_core.specs.Range.{InRange};
 ghost use Rattle.raft_safety.specs.OneList.{IsOneList};
 ghost use Rattle.raft_safety.specs.ReadFront.{AreFronted};
 ghost use Rattle.raft_safety.specs.Runs.{HasRun};
-ghost use Rattle.raft_safety.specs.Events.{IsAllowed};
-ghost use Rattle.group_world.specs.World.{group_of, Sound};
-ghost use Rattle.group_world.specs.Events.{refusal_of, IsGiven};
+ghost use Rattle.group_world.specs.World.{group_of, lost, IsWhole};
+ghost use Rattle.raft_model.specs.Given.{refusal_of, IsGiven};
 
 use crate::act::act_on;
+use crate::allowed::is_allowed;
 use crate::make::begin;
 use crate::moves::range_of;
 use crate::refusals::{envelope_of, refusal, some_replica};
 use crate::world::World;
 use host_ids::{Batch, Entries, NoMemory};
-use raft_core::{LaneEvent, LaneFault, Note, Role};
+use raft_core::{LaneEvent, LaneFault, Note, Received, Role};
 use raft_safety::{runs_as_one, runs_go_on};
 use std::alloc::Global;
 use std::marker::Model;
@@ -29,30 +31,29 @@ use wire_codec::Envelope;
 /// A group as one value: its replicas, which of them are up, the wire with every envelope ever sent,
 /// what each replica has saved, and the one decided list.
 ///
-/// Clauses see it as the group of the definitions. While no event was a start or one of a snapshot,
-/// it keeps that a list of allowed events led to it from a group that has just begun (`has_run`): what
-/// holds after every such list holds of it. A lane that was out of memory once is of no more use: `act`
-/// answers that to all that it doesn't refuse from then on, and so does `entries`.
+/// Clauses see it as the group of the definitions, and whether it is faithful: whether every event that
+/// it acted on was one that honest disks and honest snapshots may lead to, and memory never ran out. Of a
+/// faithful lane it is a fact of this type that a list of allowed events led to it from a group that has
+/// just begun, so what holds after every such list holds of it. After want of memory nothing of the group
+/// is left but its number: it has no voters, so from then on each event is refused.
 /// Source: dissertation chapter 3; the wire that keeps every envelope, what is saved when, and the
 /// refusals are this project's own.
 #[derive(Drop)]
 pub struct Lane {
     world: World,
-    broken: bool,
-    plain: bool,
+    faithful: bool,
 }
 
 impl Model for Lane {
-    ghost use Rattle.std.specs.Prelude.{◌≡◌, true, false};
-    ghost use Rattle.raft_model.specs.Group.{Group};
+    ghost use Rattle.std.specs.Prelude.{◌≡◌, true};
     ghost use Rattle.raft_safety.specs.Runs.{HasRun};
-    ghost use Rattle.group_world.specs.World.{group_of, Sound};
+    ghost use Rattle.group_world.specs.World.{Kept, group_of, IsWhole};
 
-    ghost Value = { Group };
+    ghost Value = { Kept };
 
-    ghost view = { λ l. group_of l.world };
+    ghost view = { λ l. record { group = group_of l.world; faithful = l.faithful } };
 
-    ghost invariant = { λ l. l.broken ≡ false → Sound l.world × (l.plain ≡ true → HasRun (group_of l.world)) };
+    ghost invariant = { λ l. IsWhole l.world × (l.faithful ≡ true → HasRun (group_of l.world)) };
 }
 
 impl Lane {
@@ -63,79 +64,84 @@ impl Lane {
     /// (`NoEnvelope`); where another batch is pending than the one that was saved, or none
     /// (`NotPending`); where a log is to be cut after the ripe index (`NotRipe`). Refusals come in
     /// the order of the definitions, and a refused event changes nothing. The only other error is
-    /// `NoMemory`; then the lane is of no more use.
+    /// `NoMemory`; then nothing of the group is left but its number, and the lane isn't faithful (`lost`).
     ///
-    /// A proposal's client is at least 1, its series 1 to 2^64-3 and its responded value at most
-    /// 2^64-3. A piece's term and index are at most 2^62, its number and its count below 2^32-1. An
-    /// Installed has the index of the received snapshot. A host can't be started again yet.
+    /// Of an event that isn't refused it is asked: a proposal is no blank, and it and each key have a
+    /// spelling; a piece goes to another voter and has a spelling, its term is from 1 to its host's and its
+    /// index at most 2^62; an Installed names the received snapshot, which is past the commit index, at a
+    /// follower. A host that is down can't be started again yet.
     ///
-    /// Where a list of allowed events led to the lane, and this one is allowed too, no two hosts lead a
-    /// term, one before the event and one after it; the decided list goes on; and what any replica had
-    /// committed before, or has now, is of that list (`safe`). Each read that the event notes as confirmed
-    /// has an index that is at least the length of the decided list when a read with its key was first
-    /// asked (`fronts`).
+    /// After an event that isn't refused the lane is faithful exactly where it was so and the event is an
+    /// allowed one: any but a piece of a snapshot whose place is neither 0 with the term 0 nor a decided
+    /// one with its term (`faithful`). Where it stays so, no two hosts lead a term, one before the event
+    /// and one after it; the decided list goes on; and what any replica had committed before, or has now,
+    /// is of that list (`safe`). Each read that the event notes as confirmed has an index that is at least
+    /// the length of the decided list when a read with its key was first asked (`fronts`).
     pub fn act(&mut self, event: LaneEvent) -> Result<Vec<Note>, LaneFault>
-        requires given { IsGiven self.old event }
-        ensures refused { IfSome (act event self.old).refused (λ fault. result ≡ Err fault) }
-        ensures kept { OnSome (act event self.old).refused (self.new ≡ self.old) }
-        ensures memory { (act event self.old).refused ≡ None → IfErr result (λ fault. fault ≡ faults.NoMemory) }
-        ensures group { OnOk result (self.new ≡ (act event self.old).group) }
-        ensures notes { IfOk result (λ notes. notes.items ≡ (act event self.old).notes) }
-        ensures safe { HasRun self.old → IsAllowed self.old event → OnOk result (IsOneList self.old self.new) }
-        ensures fronts { HasRun self.old → IsAllowed self.old event → IfOk result (λ notes. AreFronted self.new.asks notes.items) }
+        requires given { refusal_of self.old.group event ≡ None → IsGiven self.old.group event }
+        ensures refused { IfSome (act event self.old.group).refused (λ fault. result ≡ Err fault) }
+        ensures kept { OnSome (act event self.old.group).refused (self.new ≡ self.old) }
+        ensures memory { (act event self.old.group).refused ≡ None → IfErr result (λ fault. fault ≡ faults.NoMemory) }
+        ensures lost { (act event self.old.group).refused ≡ None → OnErr result (self.new ≡ lost self.old.group.number) }
+        ensures group { OnOk result (self.new.group ≡ (act event self.old.group).group) }
+        ensures notes { IfOk result (λ notes. notes.items ≡ (act event self.old.group).notes) }
+        ensures faithful { OnOk result (self.new.faithful ≡ (self.old.faithful && is_allowed self.old.group event)) }
+        ensures safe { self.old.faithful ≡ true → is_allowed self.old.group event ≡ true → OnOk result (IsOneList self.old.group self.new.group) }
+        ensures fronts { self.old.faithful ≡ true → is_allowed self.old.group event ≡ true → IfOk result (λ notes. AreFronted self.new.group.asks notes.items) }
     {
         if let Some(fault) = refused(&self.world, &event) {
             return Err(fault);
         }
-        if self.broken {
-            return Err(LaneFault::NoMemory);
-        }
-        self.broken = true;
         runs_go_on();
         runs_as_one();
-        self.plain = self.plain && is_allowed(&self.world, &event);
+        let allowed = is_allowed(&self.world, &event);
+        let (alloc, number) = (self.world.wire.alloc(), self.world.number);
         match act_on(&mut self.world, event) {
             Ok(notes) => {
-                self.broken = false;
+                self.faithful = self.faithful && allowed;
                 Ok(notes)
             }
-            Err(_) => Err(LaneFault::NoMemory),
+            Err(_) => {
+                self.world = World::lost(alloc, number);
+                self.faithful = false;
+                Err(LaneFault::NoMemory)
+            }
         }
     }
 
-    /// The group, 1 to 64, of these voters, which has just begun: they are 1 to 7 hosts, ascending,
-    /// each 1 to 9. All are up. The only error is `NoMemory`.
+    /// The group of these voters, at most 7 hosts, each 1 to 9, which has just begun. All are up. A group
+    /// that can decide anything has voters, ascending, and a number of 1 to 64. The only error is
+    /// `NoMemory`.
     pub fn new(alloc: Global, group: u8, voters: &[u8]) -> Result<Lane, NoMemory>
         requires few { length voters.now ≤ 7 }
         requires hosts { All (λ v. (1 ≤ v) × (v ≤ 9)) voters.now }
-        ensures { IfOk result (λ lane. lane ≡ fresh_group group voters.now) }
+        ensures { IfOk result (λ lane. lane ≡ record { group = fresh_group group voters.now; faithful = true }) }
     {
         runs_go_on();
         have_no_zero(group, voters);
         Ok(Lane {
             world: begin(alloc, group, voters)?,
-            broken: false,
-            plain: true,
+            faithful: true,
         })
     }
 
     /// The voters.
     pub fn voters(&self) -> &[u8]
-        ensures { result.now ≡ self.now.voters }
+        ensures { result.now ≡ self.now.group.voters }
     {
         &self.world.voters
     }
 
     /// The number of the newest envelope, 0 where there is none.
     pub fn newest(&self) -> u64
-        ensures { result ≡ length self.now.wire }
+        ensures { result ≡ length self.now.group.wire }
     {
         self.world.wire.envelopes().len() as u64
     }
 
     /// The envelope of a number, from 1 in the order of sending; `None` exactly where there is none.
     pub fn envelope(&self, number: u64) -> Option<&Envelope>
-        ensures { option_copied result ≡ envelope_at self.now.wire number }
+        ensures { option_copied result ≡ envelope_at self.now.group.wire number }
     {
         envelope_of(self.world.wire.envelopes(), number)
     }
@@ -144,7 +150,7 @@ impl Lane {
     /// long as what it copies. The only error is `NoMemory`.
     pub fn decided_from(&self, index: u64, most: u64) -> Result<Entries, NoMemory>
         requires from { 1 ≤ index }
-        ensures { IfOk result (λ entries. entries ≡ take most (drop (index - 1) self.now.decided)) }
+        ensures { IfOk result (λ entries. entries ≡ take most (drop (index - 1) self.now.group.decided)) }
     {
         let some = range_of(&self.world.decided, (index - 1) as usize, most as usize);
         Entries::from_slice(*self.world.decided.allocator(), some)
@@ -152,7 +158,7 @@ impl Lane {
 
     /// The pending batch of a host, a voter, if it has one.
     pub fn batch(&self, host: u8) -> Option<&Batch>
-        ensures { option_copied result ≡ option_map (λ p. p.batch) (replica_at self.now host).pending }
+        ensures { option_copied result ≡ option_map (λ p. p.batch) (replica_at self.now.group host).pending }
     {
         match some_replica(&self.world, host) {
             None => None,
@@ -162,7 +168,7 @@ impl Lane {
 
     /// Whether the replica of a host, a voter, has something to save that a batch can hold.
     pub fn changed(&self, host: u8) -> bool
-        ensures { result ≡ (is_changed (replica_at self.now host) && not (is_stuck (replica_at self.now host))) }
+        ensures { result ≡ (is_changed (replica_at self.now.group host) && not (is_stuck (replica_at self.now.group host))) }
     {
         match some_replica(&self.world, host) {
             None => false,
@@ -170,19 +176,33 @@ impl Lane {
         }
     }
 
-    /// The last index that the replica of a host, a voter, may have applied.
+    /// The last index that the replica of a host, a voter, may have applied: it lies from front to last of
+    /// its log.
     pub fn ripe(&self, host: u8) -> u64
-        ensures { result ≡ ripe (replica_at self.now host) }
+        ensures value { result ≡ ripe (replica_at self.now.group host) }
+        ensures range { ((replica_at self.now.group host).log.front ≤ result) × (result ≤ last (replica_at self.now.group host).log) }
     {
+        have_ranges(&self.world, host);
         match some_replica(&self.world, host) {
             None => 0,
             Some(replica) => replica.ripe(),
         }
     }
 
+    /// The last snapshot that the replica of a host, a voter, has received whole, if there is one. It stays
+    /// there after its install, until another one takes its place.
+    pub fn inbox(&self, host: u8) -> Option<&Received>
+        ensures { option_copied result ≡ option_map (λ b. b.received) (replica_at self.now.group host).inbox }
+    {
+        match some_replica(&self.world, host) {
+            None => None,
+            Some(replica) => replica.inbox(),
+        }
+    }
+
     /// What the replica of a host, a voter, is in its term.
     pub fn role(&self, host: u8) -> Role
-        ensures { result ≡ (replica_at self.now host).role }
+        ensures { result ≡ (replica_at self.now.group host).role }
     {
         match some_replica(&self.world, host) {
             None => Role::Follower,
@@ -190,20 +210,24 @@ impl Lane {
         }
     }
 
-    /// The commit index of the replica of a host, a voter.
+    /// The commit index of the replica of a host, a voter: it lies from front to last of its log.
     pub fn commit(&self, host: u8) -> u64
-        ensures { result ≡ (replica_at self.now host).commit }
+        ensures value { result ≡ (replica_at self.now.group host).commit }
+        ensures range { ((replica_at self.now.group host).log.front ≤ result) × (result ≤ last (replica_at self.now.group host).log) }
     {
+        have_ranges(&self.world, host);
         match some_replica(&self.world, host) {
             None => 0,
             Some(replica) => replica.commit(),
         }
     }
 
-    /// The term of the replica of a host, a voter.
+    /// The term of the replica of a host, a voter, at most 2^62.
     pub fn term(&self, host: u8) -> u64
-        ensures { result ≡ (replica_at self.now host).term }
+        ensures value { result ≡ (replica_at self.now.group host).term }
+        ensures range { result ≤ 2 ^ 62 }
     {
+        have_ranges(&self.world, host);
         match some_replica(&self.world, host) {
             None => 0,
             Some(replica) => replica.term(),
@@ -212,7 +236,7 @@ impl Lane {
 
     /// The front of the log of a host, a voter.
     pub fn front(&self, host: u8) -> u64
-        ensures { result ≡ (replica_at self.now host).log.front }
+        ensures { result ≡ (replica_at self.now.group host).log.front }
     {
         match some_replica(&self.world, host) {
             None => 0,
@@ -220,10 +244,12 @@ impl Lane {
         }
     }
 
-    /// The last index of the log of a host, a voter.
+    /// The last index of the log of a host, a voter, at most 2^62.
     pub fn last(&self, host: u8) -> u64
-        ensures { result ≡ last (replica_at self.now host).log }
+        ensures value { result ≡ last (replica_at self.now.group host).log }
+        ensures range { result ≤ 2 ^ 62 }
     {
+        have_ranges(&self.world, host);
         match some_replica(&self.world, host) {
             None => 0,
             Some(replica) => replica.log().last(),
@@ -233,7 +259,7 @@ impl Lane {
     /// The term at an index of the log of a host, a voter; `None` exactly where the index is below its
     /// front or above its last.
     pub fn term_at(&self, host: u8, index: u64) -> Option<u64>
-        ensures { result ≡ term_there (replica_at self.now host).log index }
+        ensures { result ≡ term_there (replica_at self.now.group host).log index }
     {
         match some_replica(&self.world, host) {
             None => { if index == 0 { Some(0) } else { None } }
@@ -246,14 +272,11 @@ impl Lane {
     /// to 2^64-3 and the responded value at most 2^64-3, where it has them. It takes as long as what
     /// it copies. The only error is `NoMemory`.
     pub fn entries(&self, host: u8, first: u64, most: u64) -> Result<Entries, NoMemory>
-        requires behind { (replica_at self.now host).log.front < first }
-        requires within { first ≤ last (replica_at self.now host).log + 1 }
-        ensures entries { IfOk result (λ entries. entries ≡ slice (replica_at self.now host).log first most) }
+        requires behind { (replica_at self.now.group host).log.front < first }
+        requires within { first ≤ last (replica_at self.now.group host).log + 1 }
+        ensures entries { IfOk result (λ entries. entries ≡ slice (replica_at self.now.group host).log first most) }
         ensures fit { IfOk result (λ entries. are_fit entries ≡ true) }
     {
-        if self.broken {
-            return Err(NoMemory);
-        }
         have_fit_numbers(&self.world, host, first, most);
         match some_replica(&self.world, host) {
             None => Ok(Entries::new(self.world.wire.alloc())),
@@ -261,40 +284,14 @@ impl Lane {
         }
     }
 
-    /// Whether a list of allowed events led to the lane from a group that has just begun, as far as the
-    /// lane knows: no event so far was a start or one of a snapshot, and it never was out of memory.
-    pub fn has_run(&self) -> bool
-        ensures { result ≡ true → HasRun self.now }
-    {
-        self.plain && !self.broken
-    }
-
-    /// Whether all events so far were ones that honest disks may lead to. It is true: the one event
-    /// that may not be so, a start from what a crash left, isn't built yet.
+    /// Whether every event that the lane acted on was an allowed one, that honest disks and honest snapshots
+    /// may lead to, and memory never ran out. Then a list of allowed events led to the lane from a group that has just begun (`runs`).
     pub fn faithful(&self) -> bool
-        ensures { result ≡ true }
+        ensures faithful { result ≡ self.now.faithful }
+        ensures runs { self.now.faithful ≡ true → HasRun self.now.group }
     {
-        true
+        self.faithful
     }
-}
-
-/// Whether an event is known to be allowed: so is every one but a start and those of a snapshot, which are
-/// allowed in some groups and not in others.
-fn is_allowed(w: &World, event: &LaneEvent) -> bool
-    ensures { result ≡ true → IsAllowed (group_of w.now) event.now }
-{
-    matches!(
-        event,
-        LaneEvent::Timeout { .. }
-            | LaneEvent::Beat { .. }
-            | LaneEvent::Deliver { .. }
-            | LaneEvent::Ready { .. }
-            | LaneEvent::Saved { .. }
-            | LaneEvent::Propose { .. }
-            | LaneEvent::Ask { .. }
-            | LaneEvent::Compact { .. }
-            | LaneEvent::Down { .. }
-    )
 }
 
 /// A group of hosts from 1 on has no voter 0.
@@ -303,9 +300,15 @@ fn have_no_zero(group: u8, voters: &[u8])
     ensures { is_member (fresh_group group voters.now) 0 ≡ false }
 {}
 
+/// A replica's numbers are in their ranges.
+fn have_ranges(w: &World, host: u8)
+    requires { IsWhole w.now }
+    ensures { InRange (replica_at (group_of w.now) host) }
+{}
+
 /// The numbers of the proposals in a replica's log are in their ranges.
 fn have_fit_numbers(w: &World, host: u8, first: u64, most: u64)
-    requires { Sound w.now }
+    requires { IsWhole w.now }
     ensures { are_fit (slice (replica_at (group_of w.now) host).log first most) ≡ true }
 {}
 

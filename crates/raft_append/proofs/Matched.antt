@@ -2,7 +2,7 @@
 use Rattle.std.proofs.Common.{◌≡◌, ◌≤◌, ◌<◌, ◌+◌, ◌-◌, ℕ, zero, suc, List, [], ◌∷◌, Bool, true, false, refl, arith, sym, ◌∙◌}
 use Rattle.std.proofs.lemmas.Bool.Decides.{nat_tests}
 use Rattle.std.specs.Prelude.{nat_lt, nat_le, max, if◌then◌else◌}
-use Rattle.raft_model.specs.Roster.{at, count, is_majority}
+use Rattle.roster.specs.Roster.{at, count, is_majority}
 use Rattle.log_view.specs.Log.{Log}
 use Rattle.raft_model.specs.Replica.{greatest, may_commit}
 use Rattle.raft_append.specs.Matching.{greatest_below}

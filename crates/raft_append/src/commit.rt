@@ -1,12 +1,12 @@
 ghost use Rattle.std.specs.Prelude.{◌≡◌, ◌≤◌, ◌<◌, length, nat_le};
 ghost use Rattle.std.specs.List.{All};
-ghost use Rattle.raft_model.specs.Roster.{at, count, is_majority};
 ghost use Rattle.log_view.specs.Log.{term_at};
 ghost use Rattle.raft_model.specs.Replica.{committed_by};
 ghost use Rattle.raft_append.specs.Matching.{greatest_below};
 
 use log_view::Log;
 use raft_model::Progress;
+use roster::has_reached;
 
 /// The commit rule: the greatest index above `commit` up to which a majority of the voters has matched
 /// the log, and whose entry is of `term`; `commit` where there is none.
@@ -30,7 +30,7 @@ pub fn commit_candidate(
     let mut left = log.last().saturating_sub(commit);
     while left > 0 {
         let index = commit + left;
-        if !has_majority(voters, &progress.matched, index) {
+        if !has_reached(voters, &progress.matched, index) {
             left = matched_below(voters, &progress.matched, index).saturating_sub(commit);
         } else if log.term_or_zero(index) == term {
             return index;
@@ -39,30 +39,6 @@ pub fn commit_candidate(
         }
     }
     commit
-}
-
-/// Whether a majority has matched an index.
-fn has_majority(voters: &[u8], matched: &[u64; 10], index: u64) -> bool
-    requires few { length voters.now ≤ 7 }
-    requires hosts { All (λ v. v ≤ 9) voters.now }
-    ensures { result ≡ is_majority voters.now (λ v. nat_le index (at matched.now v)) }
-{
-    voters.len() < 2 * matched_count(voters, matched, index)
-}
-
-/// How many voters have matched an index.
-fn matched_count(voters: &[u8], matched: &[u64; 10], index: u64) -> usize
-    requires hosts { All (λ v. v ≤ 9) voters.now }
-    ensures number { result ≡ count (λ v. nat_le index (at matched.now v)) voters.now }
-    ensures most { result ≤ length voters.now }
-{
-    let mut number = 0;
-    for voter in voters {
-        if index <= matched[*voter as usize] {
-            number += 1;
-        }
-    }
-    number
 }
 
 /// The greatest index below this one that a voter has matched, 0 for none.

@@ -1,5 +1,5 @@
 ghost use Rattle.std.specs.Prelude.{◌≡◌, ◌≤◌, ◌<◌, ◌+◌, ◌^◌};
-ghost use Rattle.raft_model.specs.Roster.{at};
+ghost use Rattle.roster.specs.Roster.{at};
 ghost use Rattle.raft_model.specs.Appending.{heard};
 
 use raft_model::Progress;

@@ -9,7 +9,8 @@ use Rattle.host_ids.specs.declared.proposal.Proposal.{Proposal}
 use Rattle.raft_model.specs.declared.role.Role.TheVariants.{Follower, Candidate, Leader}
 use Rattle.raft_model.specs.declared.state.State.{State as Replica}
 use Rattle.wire_codec.specs.declared.envelope.Body.TheVariants as kinds
-use Rattle.raft_model.specs.Roster.{Seat, at, none_set}
+use Rattle.read_index.specs.Reads.{closed}
+use Rattle.roster.specs.Roster.{Seat, at, none_set}
 use Rattle.log_view.specs.Log.{Log, last, term_at, slice}
 use Rattle.raft_model.specs.Replica.{each_other, append_to, sent, appended, appended_to_all, own_entry, in_term, is_candidate, is_leader, greatest, may_commit, commit_rule}
 use Rattle.raft_model.specs.Fit.{is_fit}
@@ -69,7 +70,7 @@ to_all_kept s key p r h short role fit = each_kept s.me (append_to s) (append_to
 
 pub in_term_kept : (t : ℕ) (r : Replica) → t ≤ 2 ^ 62 → InRange r → InRange (in_term t r)
 in_term_kept t r short h =
-    cond_both (nat_lt r.term t) (record r { term = t; vote = 0; role = Follower; leader = 0; granted = none_set; reads = [] }) r (λ q. InRange q)
+    cond_both (nat_lt r.term t) (record r { term = t; vote = 0; role = Follower; leader = 0; granted = none_set; reads = closed r.reads }) r (λ q. InRange q)
     (λ _. (
       record { term_short = short; round_short = h.0.round_short; batches_short = h.0.batches_short },
       record { last_short = h.1.last_short; may_lead = λ c. absurd (cc c); front_committed = h.1.front_committed; committed = h.1.committed; front_saved = h.1.front_saved; saved = h.1.saved; changed = h.1.changed },

@@ -5,3 +5,4 @@ mod Logs
 mod Mail
 mod Steps
 mod Waits
+mod Confirming

@@ -13,7 +13,7 @@ use Rattle.raft_model.specs.declared.progress.Appended.TheVariants.{Stored}
 use Rattle.raft_model.specs.declared.state.Inbox.{Inbox}
 use Rattle.raft_model.specs.declared.state.State.{State as Replica}
 use Rattle.raft_model.specs.declared.role.Role.TheVariants.{Follower, Candidate, Leader}
-use Rattle.raft_model.specs.Roster.{Seat, at}
+use Rattle.roster.specs.Roster.{Seat, at}
 use Rattle.log_view.specs.Log.{Log, Laid, last, term_at, is_kept, laid, append_after, cut_front, reset}
 use Rattle.raft_model.specs.Replica.{Row, quiet, sent, append_to, is_candidate, is_leader, is_follower, commit_rule, ripe}
 use Rattle.raft_model.specs.Appending.{Took as AppendTook, lacks, refused, stored, takes_append, answers_append, follows, on_append, more_to, progress, with_progress, heard, reached, stepped_back, on_append_reply}
@@ -297,11 +297,11 @@ replied_kept s i None r h = h
 replied_kept s i (Some b) r h = h
 
 -- the index of a received snapshot is short
-pub named_short : (inbox : Option Inbox) (i : ℕ) → IfSome inbox IsReceived → IsSomeAnd inbox (λ b. b.index ≡ i) → i ≤ 2 ^ 62
+pub named_short : (inbox : Option Inbox) (i : ℕ) → IfSome inbox IsReceived → IsSomeAnd inbox (λ b. b.received.index ≡ i) → i ≤ 2 ^ 62
 named_short None i a b = absurd b
 named_short (Some b) i a e = omega (arith, a.1, e)
 
-pub installed_kept : (s : Seat) (i t : ℕ) (r : Replica) → InRange r → IsSomeAnd r.inbox (λ b. b.index ≡ i) → InRange (installed s i t r).replica
+pub installed_kept : (s : Seat) (i t : ℕ) (r : Replica) → InRange r → IsSomeAnd r.inbox (λ b. b.received.index ≡ i) → InRange (installed s i t r).replica
 installed_kept s i t r h named =
     cond_both (is_follower r && nat_lt r.commit i) (quiet (replied s i r.inbox (based i t r))) (quiet r) (λ w. InRange w.replica)
     (λ e.

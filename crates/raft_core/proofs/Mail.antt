@@ -15,16 +15,17 @@ use Rattle.wire_codec.specs.declared.envelope.Body.TheVariants as kinds
 use Rattle.raft_model.specs.declared.chunk.Chunk.{Chunk}
 use Rattle.raft_model.specs.declared.note.Note.TheVariants as notes
 use Rattle.raft_model.specs.declared.progress.Appended.TheVariants.{Stored}
-use Rattle.raft_model.specs.declared.read.OpenRead.{OpenRead}
+use Rattle.read_index.specs.declared.reads.OpenRead.{OpenRead}
 use Rattle.raft_model.specs.declared.role.Role.TheVariants.{Follower}
 use Rattle.raft_model.specs.declared.state.Inbox.{Inbox}
 use Rattle.raft_model.specs.declared.state.State.{State as Replica}
 use Rattle.log_view.specs.Log.{Laid, last, last_term, term_at, slice, laid, cut_front, reset}
-use Rattle.raft_model.specs.Roster.{Seat, at, none_set}
+use Rattle.read_index.specs.Reads.{closed}
+use Rattle.roster.specs.Roster.{Seat, at, none_set}
 use Rattle.raft_model.specs.Replica.{Row, quiet, notes_idle, notes_dropped, each_other, append_to, sent, sent_in, lowered, appended, appended_to_all, in_term, is_candidate, is_leader, is_full, is_follower, ripe, crowned, lead, no_key, commit_rule}
 use Rattle.raft_model.specs.Voting.{on_timeout, campaigned, asked_votes, on_vote, granted_by, on_vote_reply, election, counts, has_won, with_grant, grants, voted}
 use Rattle.raft_model.specs.Appending.{Took as AppendTook, lacks, refused, stored, takes_append, answers_append, follows, on_append, more_to, progress, with_progress, heard, reached, on_append_reply}
-use Rattle.raft_model.specs.Reading.{on_beat, is_answered, confirmed, confirm, confirms, answers_round, then_more_to, on_beat_reply, beats, next_round, on_script_beat, may_read, opened, open_read, on_read_ask, on_ask}
+use Rattle.raft_model.specs.Reading.{on_beat, is_answered, confirmed, confirm, confirms, waits_on, answers_round, then_more_to, on_beat_reply, beats, next_round, on_script_beat, may_read, opened, open_read, on_read_ask, on_ask}
 use Rattle.raft_model.specs.Proposing.{on_propose, on_local_proposal}
 use Rattle.raft_model.specs.Snapping.{Took, taken, after_take, on_chunk, on_snap_reply, sends_chunk, compacted, stays, based, replied, installed}
 use Rattle.raft_model.specs.Fit.{is_fit}
@@ -80,7 +81,7 @@ more_holds : (s : Seat) (v : ℕ) (r : Replica) → IsSeat s → InRange r → H
 more_holds s v r q h k = cond_both (nat_lt (at r.matched v) (last r.log)) (append_to s v r) r (λ x. Holds x) (λ _. append_to_holds s v r q h k) (λ _. k)
 
 pub in_term_holds : (t : ℕ) (r : Replica) → Holds r → Holds (in_term t r)
-in_term_holds t r k = cond_both (nat_lt r.term t) (record r { term = t; vote = 0; role = Follower; leader = 0; granted = none_set; reads = [] }) r (λ x. Holds x) (λ _. k) (λ _. k)
+in_term_holds t r k = cond_both (nat_lt r.term t) (record r { term = t; vote = 0; role = Follower; leader = 0; granted = none_set; reads = closed r.reads }) r (λ x. Holds x) (λ _. k) (λ _. k)
 
 -- ---- votes
 
@@ -148,13 +149,13 @@ confirmed_holds s read w q k =
 confirm_holds : (s : Seat) (reads : List OpenRead) (w : Row) → IsSeat s → Holds w.replica → Holds (confirm s reads w).replica
 confirm_holds s [] w q k = k
 confirm_holds s (read ∷ more) w q k =
-    let stays = record w { replica = record w.replica { reads = w.replica.reads ++ read ∷ [] } } in
+    let stays = record w { replica = waits_on read w.replica } in
     cond_both (is_answered s w.replica read) (confirm s more (confirmed s read w)) (confirm s more stays) (λ x. Holds x.replica)
     (λ _. confirm_holds s more (confirmed s read w) q (confirmed_holds s read w q k))
     (λ _. confirm_holds s more stays q k)
 
 confirms_holds : (s : Seat) (r : Replica) → IsSeat s → Holds r → Holds (confirms s r).replica
-confirms_holds s r q k = confirm_holds s r.reads (quiet (record r { reads = [] })) q k
+confirms_holds s r q k = confirm_holds s r.reads.waiting (quiet (record r { reads = closed r.reads })) q k
 
 pub beat_reply_holds : (s : Seat) (from t round : ℕ) (r : Replica) → IsSeat s → InRange r → Holds r → Holds (on_beat_reply s from t round r).replica
 beat_reply_holds s from t round r q h k =
@@ -165,7 +166,7 @@ beat_reply_holds s from t round r q h k =
 
 beats_holds : (s : Seat) (r : Replica) → IsSeat s → InRange r → Holds r → Holds (beats s r)
 beats_holds s r q h k =
-    (each_both s.me (λ v x. sent s v (kinds.Beat (min (at x.matched v) x.commit) x.round) x) (λ v x b. (b.0, sent_holds s v (kinds.Beat (min (at x.matched v) x.commit) x.round) x q b.0.0.term_short tt b.1)) s.voters r (h, k)).1
+    (each_both s.me (λ v x. sent s v (kinds.Beat (min (at x.matched v) x.commit) x.reads.round) x) (λ v x b. (b.0, sent_holds s v (kinds.Beat (min (at x.matched v) x.commit) x.reads.round) x q b.0.0.term_short tt b.1)) s.voters r (h, k)).1
 
 pub script_beat_holds : (s : Seat) (r : Replica) → IsSeat s → InRange r → Holds r → Holds (on_script_beat s r).replica
 script_beat_holds s r q h k =
@@ -173,7 +174,7 @@ script_beat_holds s r q h k =
     (λ _. k)
     (λ e. beats_holds s (next_round r) q (next_kept r h (not_full r (or_parts (is_full r) (not (is_leader r)) e).0).2) k)
 
-open_holds : (s : Seat) (key : Key) (origin : ℕ) (r : Replica) → IsSeat s → InRange r → r.round < 2 ^ 62 → Holds r → Holds (open_read s key origin r).replica
+open_holds : (s : Seat) (key : Key) (origin : ℕ) (r : Replica) → IsSeat s → InRange r → r.reads.round < 2 ^ 62 → Holds r → Holds (open_read s key origin r).replica
 open_holds s key origin r q h short k =
     let o = opened key origin (next_round r) in
     confirms_holds s (beats s o) q (beats_holds s o q (next_kept r h short) k)
@@ -275,7 +276,7 @@ replied_holds : (s : Seat) (i : ℕ) (inbox : Option Inbox) (r : Replica) → Is
 replied_holds s i None r q short k = k.0
 replied_holds s i (Some b) r q short k = sent_holds s b.sender (kinds.SnapReply i (b.count + 1) true) r q k.1 short k.0
 
-pub installed_holds : (s : Seat) (i t : ℕ) (r : Replica) → IsSeat s → InRange r → IsSomeAnd r.inbox (λ b. b.index ≡ i) → Holds r → Holds (installed s i t r).replica
+pub installed_holds : (s : Seat) (i t : ℕ) (r : Replica) → IsSeat s → InRange r → IsSomeAnd r.inbox (λ b. b.received.index ≡ i) → Holds r → Holds (installed s i t r).replica
 installed_holds s i t r q h named k =
     cond_both (is_follower r && nat_lt r.commit i) (quiet (replied s i r.inbox (based i t r))) (quiet r) (λ w. Holds w.replica)
     (λ _. replied_holds s i r.inbox (based i t r) q (named_short r.inbox i h.2.received named) (based_holds i t r (k, h.0.term_short)))

@@ -13,7 +13,7 @@ use Rattle.wire_codec.specs.declared.envelope.Body.TheVariants as kinds
 use Rattle.raft_model.specs.declared.input.Input.{Input}
 use Rattle.raft_model.specs.declared.input.Input.TheVariants as inputs
 use Rattle.raft_model.specs.declared.state.State.{State as Replica}
-use Rattle.raft_model.specs.Roster.{Seat}
+use Rattle.roster.specs.Roster.{Seat}
 use Rattle.raft_model.specs.Replica.{Row, in_term, quiet, may_release, is_candidate, is_leader, commit_rule}
 use Rattle.raft_model.specs.Saving.{may_give, gave_batch, own_match, saved_batch}
 use Rattle.raft_model.specs.Voting.{granted_by}

@@ -10,13 +10,14 @@ use Rattle.wire_codec.specs.declared.envelope.Body.TheVariants as kinds
 use Rattle.host_ids.specs.declared.entry.Key.{Key}
 use Rattle.host_ids.specs.declared.proposal.Proposal.{Proposal}
 use Rattle.host_ids.specs.declared.proposal.Proposal.TheVariants as proposals
-use Rattle.raft_model.specs.declared.read.OpenRead.{OpenRead}
-use Rattle.raft_model.specs.Roster.{Seat, at, all_at}
+use Rattle.read_index.specs.declared.reads.OpenRead.{OpenRead}
+use Rattle.read_index.specs.Reads.{closed}
+use Rattle.roster.specs.Roster.{Seat, at, all_at}
 use Rattle.log_view.specs.Log.{last, last_term}
 use Rattle.raft_model.specs.Replica.{Row, quiet, notes_idle, notes_dropped, append_to, sent, sent_in, appended_to_all, is_candidate, is_leader, is_full, crowned, lead, no_key}
 use Rattle.raft_model.specs.Voting.{on_timeout, campaigned, asked_votes, granted_by, on_vote_reply, election, counts, has_won, with_grant}
 use Rattle.raft_model.specs.Appending.{follows, more_to}
-use Rattle.raft_model.specs.Reading.{on_beat, is_answered, confirmed, confirm, confirms, answers_round, then_more_to, on_beat_reply, beats, next_round, on_script_beat, may_read, opened, open_read, on_read_ask, on_ask}
+use Rattle.raft_model.specs.Reading.{on_beat, is_answered, confirmed, confirm, confirms, waits_on, answers_round, then_more_to, on_beat_reply, beats, next_round, on_script_beat, may_read, opened, open_read, on_read_ask, on_ask}
 use Rattle.raft_model.specs.Proposing.{on_propose, on_local_proposal}
 use Rattle.raft_model.specs.Fit.{is_fit}
 use Rattle.raft_core.specs.Range.{InRange}
@@ -28,16 +29,16 @@ pub not_true : (a : Bool) → not a ≡ true → a ≡ false
 not_true true e = absurd (cc e)
 not_true false e = refl
 
-pub not_full : (r : Replica) → is_full r ≡ false → (r.term < 2 ^ 62) × (last r.log < 2 ^ 62) × (r.round < 2 ^ 62)
+pub not_full : (r : Replica) → is_full r ≡ false → (r.term < 2 ^ 62) × (last r.log < 2 ^ 62) × (r.reads.round < 2 ^ 62)
 not_full r e =
-    let a = or_parts (nat_le (2 ^ 62) r.term || nat_le (2 ^ 62) (last r.log)) (nat_le (2 ^ 62) r.round) e in
+    let a = or_parts (nat_le (2 ^ 62) r.term || nat_le (2 ^ 62) (last r.log)) (nat_le (2 ^ 62) r.reads.round) e in
     let b = or_parts (nat_le (2 ^ 62) r.term) (nat_le (2 ^ 62) (last r.log)) a.0 in
     let x = b.0 in
     let y = b.1 in
     let z = a.1 in
     let one : r.term < 2 ^ 62 = grind (arith, nat_tests) in
     let two : last r.log < 2 ^ 62 = grind (arith, nat_tests) in
-    let three : r.round < 2 ^ 62 = grind (arith, nat_tests) in
+    let three : r.reads.round < 2 ^ 62 = grind (arith, nat_tests) in
     (one, two, three)
 
 -- ---- votes
@@ -134,12 +135,12 @@ confirmed_kept s read w h =
 confirm_kept : (s : Seat) (reads : List OpenRead) (w : Row) → InRange w.replica → InRange (confirm s reads w).replica
 confirm_kept s [] w h = h
 confirm_kept s (read ∷ more) w h =
-    cond_both (is_answered s w.replica read) (confirm s more (confirmed s read w)) (confirm s more (record w { replica = record w.replica { reads = w.replica.reads ++ read ∷ [] } })) (λ x. InRange x.replica)
+    cond_both (is_answered s w.replica read) (confirm s more (confirmed s read w)) (confirm s more (record w { replica = waits_on read w.replica })) (λ x. InRange x.replica)
     (λ _. confirm_kept s more (confirmed s read w) (confirmed_kept s read w h))
-    (λ _. confirm_kept s more (record w { replica = record w.replica { reads = w.replica.reads ++ read ∷ [] } }) h)
+    (λ _. confirm_kept s more (record w { replica = waits_on read w.replica }) h)
 
 pub confirms_kept : (s : Seat) (r : Replica) → InRange r → InRange (confirms s r).replica
-confirms_kept s r h = confirm_kept s r.reads (quiet (record r { reads = [] })) h
+confirms_kept s r h = confirm_kept s r.reads.waiting (quiet (record r { reads = closed r.reads })) h
 
 pub beat_reply_kept : (s : Seat) (from t round : ℕ) (r : Replica) → InRange r → InRange (on_beat_reply s from t round r).replica
 beat_reply_kept s from t round r h =
@@ -148,9 +149,9 @@ beat_reply_kept s from t round r h =
     (λ _. h)
 
 pub beats_kept : (s : Seat) (r : Replica) → InRange r → InRange (beats s r)
-beats_kept s r h = each_kept s.me (λ v q. sent s v (kinds.Beat (min (at q.matched v) q.commit) q.round) q) (λ v q k. k) s.voters r h
+beats_kept s r h = each_kept s.me (λ v q. sent s v (kinds.Beat (min (at q.matched v) q.commit) q.reads.round) q) (λ v q k. k) s.voters r h
 
-pub next_kept : (r : Replica) → InRange r → r.round < 2 ^ 62 → InRange (next_round r)
+pub next_kept : (r : Replica) → InRange r → r.reads.round < 2 ^ 62 → InRange (next_round r)
 next_kept r h short = (record { term_short = h.0.term_short; round_short = omega (arith, short); batches_short = h.0.batches_short }, h.1, h.2, h.3)
 
 pub script_beat_kept : (s : Seat) (r : Replica) → InRange r → InRange (on_script_beat s r).replica
@@ -159,7 +160,7 @@ script_beat_kept s r h =
     (λ _. h)
     (λ e. beats_kept s (next_round r) (next_kept r h (not_full r (or_parts (is_full r) (not (is_leader r)) e).0).2))
 
-open_kept : (s : Seat) (key : Key) (origin : ℕ) (r : Replica) → InRange r → r.round < 2 ^ 62 → InRange (open_read s key origin r).replica
+open_kept : (s : Seat) (key : Key) (origin : ℕ) (r : Replica) → InRange r → r.reads.round < 2 ^ 62 → InRange (open_read s key origin r).replica
 open_kept s key origin r h short =
     confirms_kept s (beats s (opened key origin (next_round r))) (beats_kept s (opened key origin (next_round r)) (next_kept r h short))
 

@@ -6,7 +6,7 @@ use Rattle.host_ids.specs.declared.proposal.Proposal.TheVariants as proposals
 use Rattle.wire_codec.specs.declared.envelope.Body.TheVariants as kinds
 use Rattle.raft_model.specs.declared.state.State.{State as Replica}
 use Rattle.log_view.specs.Log.{last, term_at, slice}
-use Rattle.raft_model.specs.Roster.{Seat, at}
+use Rattle.roster.specs.Roster.{Seat, at}
 use Rattle.raft_model.specs.Replica.{each_other, sent, append_to, appended, is_leader, crowned, lead, no_key, commit_rule}
 use Rattle.raft_model.specs.Saving.{own_match}
 

@@ -3,7 +3,7 @@ use Rattle.std.specs.Prelude.{◌-◌, ◌==◌, ◌&&◌, Bool, min, max, if◌
 use Rattle.host_ids.specs.declared.entry.Batch.{Batch}
 use Rattle.raft_core.specs.declared.saving.Mark.{Mark}
 use Rattle.raft_model.specs.declared.state.State.{State as Replica}
-use Rattle.raft_model.specs.Roster.{Seat}
+use Rattle.roster.specs.Roster.{Seat}
 use Rattle.raft_model.specs.Replica.{Row, quiet, is_candidate}
 use Rattle.raft_model.specs.Voting.{granted_by}
 use Rattle.raft_model.specs.Saving.{batch_last, then_own_match}

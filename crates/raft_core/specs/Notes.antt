@@ -3,7 +3,7 @@ use Rattle.std.specs.Prelude.{ℕ, List, [], ◌∷◌, Bool, if◌then◌else�
 use Rattle.host_ids.specs.declared.entry.Key.{Key}
 use Rattle.raft_model.specs.declared.note.Note.{Note}
 use Rattle.raft_model.specs.declared.note.Note.TheVariants as notes
-use Rattle.raft_model.specs.Roster.{Seat}
+use Rattle.roster.specs.Roster.{Seat}
 
 abbrev pub led_notes : Seat → ℕ → Bool → List Note
 led_notes s term b = if b then notes.Leader s.me term ∷ [] else []

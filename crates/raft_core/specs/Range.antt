@@ -12,7 +12,7 @@ use Rattle.raft_model.specs.declared.state.Pending.{Pending}
 use Rattle.raft_model.specs.declared.state.State.{State as Replica}
 use Rattle.log_view.specs.Log.{Log, last}
 use Rattle.raft_model.specs.Fit.{is_fit, are_fit}
-use Rattle.raft_model.specs.Roster.{Seat}
+use Rattle.roster.specs.Roster.{Seat}
 use Rattle.raft_model.specs.Replica.{is_candidate}
 
 -- term, round and the numbers of batches stay up to 2^62
@@ -36,7 +36,7 @@ abbrev pub InPlace : Pending → Type 0
 InPlace p = (p.batch.front < p.batch.first) × (p.batch.first + length p.batch.entries ≤ 2 ^ 62 + 1)
 
 abbrev pub IsReceived : Inbox → Type 0
-IsReceived b = (b.count + 1 < 2 ^ 32) × (b.index ≤ 2 ^ 62)
+IsReceived b = (b.count + 1 < 2 ^ 32) × (b.received.index ≤ 2 ^ 62)
 
 pub record Known (matched : List ℕ) (pending : Option Pending) (assembly : List Chunk) (inbox : Option Inbox) : Type 0 where
   pub matched_short : All (λ i. i ≤ 2 ^ 62) matched
@@ -46,7 +46,7 @@ pub record Known (matched : List ℕ) (pending : Option Pending) (assembly : Lis
 
 -- and the numbers of the proposals in its log are in their ranges
 abbrev pub InRange : Replica → Type 0
-InRange r = Numbers r.term r.round r.batches × Places (is_candidate r) r.log r.commit r.stable r.from × Known r.matched r.pending r.assembly r.inbox × (are_fit r.log.entries ≡ true)
+InRange r = Numbers r.term r.reads.round r.batches × Places (is_candidate r) r.log r.commit r.stable r.from × Known r.matched r.pending r.assembly r.inbox × (are_fit r.log.entries ≡ true)
 
 -- the numbers of an envelope's body that a replica takes over
 abbrev pub BodyWithin : Body → Type 0
@@ -75,7 +75,7 @@ IsWithin r (inputs.Propose key p) = is_fit p ≡ true
 IsWithin r (inputs.Ask key) = ⊤
 IsWithin r (inputs.Chunk to c) = (c.term ≤ 2 ^ 62) × (c.index ≤ 2 ^ 62) × (c.number + 1 < 2 ^ 32) × (c.count + 1 < 2 ^ 32)
 IsWithin r (inputs.Compact i) = ⊤
-IsWithin r (inputs.Installed i t) = IsSomeAnd r.inbox (λ b. b.index ≡ i)
+IsWithin r (inputs.Installed i t) = IsSomeAnd r.inbox (λ b. b.received.index ≡ i)
 
 -- what a replica holds may be given to another one
 abbrev pub Holds : Replica → Type 0

@@ -1,6 +1,6 @@
 ghost use Rattle.std.specs.Prelude.{◌≡◌, ◌≤◌, ◌<◌, ◌+◌, ◌^◌, length, OnOk};
 ghost use Rattle.log_view.specs.Log.{last};
-ghost use Rattle.raft_model.specs.Roster.{at};
+ghost use Rattle.roster.specs.Roster.{at};
 ghost use Rattle.raft_model.specs.Replica.{commit_rule};
 ghost use Rattle.raft_model.specs.Appending.{changed, answers_append, takes_append, follows, on_append as append_of, more_to, progress, with_progress, heard, on_append_reply as append_reply_of};
 

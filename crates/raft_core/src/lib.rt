@@ -16,8 +16,5 @@ mod state;
 mod voting;
 
 pub use fault::CoreFault;
-pub use raft_model::{Durable, Input, LaneEvent, LaneFault, Note, Role};
+pub use raft_model::{Chunk, Durable, Input, LaneEvent, LaneFault, Note, Received, Role};
 pub use replica::Replica;
-
-#[cfg(test)]
-mod tests;

@@ -1,15 +1,16 @@
 ghost use Rattle.std.specs.Prelude.{◌≡◌, ◌≤◌, ◌<◌, ◌+◌, ◌^◌, ◌==◌, ◌||◌, ◌∷◌, [], nat_le, length, List, OnOk, IfOk, OnErr, true};
 ghost use Rattle.std.specs.List.{All};
-ghost use Rattle.raft_model.specs.Roster.{at, count, is_majority};
 ghost use Rattle.raft_model.specs.Replica.{quiet};
-ghost use Rattle.raft_model.specs.Reading.{is_answered, confirmed, confirm, confirms, answers_round, on_beat_reply, on_beat, beats, next_round, on_script_beat, may_read, opened, open_read, on_read_ask, on_ask, then_more_to};
+ghost use Rattle.raft_model.specs.Reading.{confirmed, confirms, answers_round, on_beat_reply, on_beat, beats, next_round, on_script_beat, may_read, opened, open_read, on_read_ask, on_ask, then_more_to};
 ghost use Rattle.raft_core.specs.Notes.{idle_notes, dropped_notes};
+ghost use Rattle.raft_core.specs.Confirming.{confirm_from};
 
 use crate::appending::{follow, send_more};
 use crate::seat::Seat;
 use crate::sending::{is_full_now, is_leader_role, send, send_in};
 use host_ids::{Key, NoMemory};
-use raft_model::{Note, OpenRead, State};
+use raft_model::{Note, State};
+use read_index::OpenRead;
 use wire_codec::Body;
 
 /// A Beat, whose term was taken over.
@@ -34,29 +35,6 @@ pub(crate) fn beat_row(
     send(seat, r, from, Body::BeatReply { round })
 }
 
-/// How many voters, this replica among them, have answered a round.
-fn answered_count(voters: &[u8], me: u8, answered: &[u64; 10], round: u64) -> usize
-    requires hosts { All (λ v. v ≤ 9) voters.now }
-    ensures number { result ≡ count (λ v. (v == me) || nat_le round (at answered.now v)) voters.now }
-    ensures most { result ≤ length voters.now }
-{
-    let mut number = 0;
-    for voter in voters {
-        if *voter == me || round <= answered[*voter as usize] {
-            number += 1;
-        }
-    }
-    number
-}
-
-/// Whether a majority has answered a read's round.
-fn has_answers(seat: &Seat, r: &State, read: &OpenRead) -> bool
-    ensures { result ≡ is_answered seat.now r.now read.now }
-{
-    let voters = seat.voters();
-    voters.len() < 2 * answered_count(voters, seat.me(), &r.answered, read.round)
-}
-
 /// A confirmed read is noted, or answered to the host that handed it on.
 fn confirm_one(
     seat: &Seat,
@@ -64,7 +42,8 @@ fn confirm_one(
     notes: &mut Vec<Note>,
     read: &OpenRead,
 ) -> Result<(), NoMemory>
-    ensures { OnOk result (record { replica = r.new; notes = notes.new.items } ≡ confirmed seat.now read.now (record { replica = r.old; notes = notes.old.items })) }
+    ensures row { OnOk result (record { replica = r.new; notes = notes.new.items } ≡ confirmed seat.now read.now (record { replica = r.old; notes = notes.old.items })) }
+    ensures reads { OnOk result (r.new.reads ≡ r.old.reads) }
 {
     if read.origin == seat.me() {
         notes.push(Note::Confirmed {
@@ -82,21 +61,13 @@ fn confirm_one(
     }
 }
 
-/// These reads in order: those that are answered are confirmed, the others stay open.
-fn confirm_each(
-    seat: &Seat,
-    r: &mut State,
-    notes: &mut Vec<Note>,
-    reads: &[OpenRead],
-) -> Result<(), NoMemory>
-    ensures { OnOk result (record { replica = r.new; notes = notes.new.items } ≡ confirm seat.now reads.now (record { replica = r.old; notes = notes.old.items })) }
+/// The open reads that are answered, which come before the others, are confirmed in order.
+#[tactic(auto, using(crate::proofs::Confirming::none_left))]
+fn confirm_each(seat: &Seat, r: &mut State, notes: &mut Vec<Note>) -> Result<(), NoMemory>
+    ensures { OnOk result (record { replica = r.new; notes = notes.new.items } ≡ confirm_from seat.now r.old notes.old.items) }
 {
-    for read in reads {
-        if has_answers(seat, r, read) {
-            confirm_one(seat, r, notes, read)?;
-        } else {
-            r.reads.push(*read)?;
-        }
+    while let Some(read) = r.reads.confirmed(seat.voters(), seat.me()) {
+        confirm_one(seat, r, notes, &read)?;
     }
     Ok(())
 }
@@ -107,8 +78,7 @@ fn confirm_open(seat: &Seat, r: &mut State) -> Result<Vec<Note>, NoMemory>
     ensures notes { IfOk result (λ notes. notes.items ≡ (confirms seat.now r.old).notes) }
 {
     let mut notes = Vec::new(seat.alloc());
-    let reads = r.reads.take();
-    confirm_each(seat, r, &mut notes, reads.items())?;
+    confirm_each(seat, r, &mut notes)?;
     Ok(notes)
 }
 
@@ -127,8 +97,7 @@ pub(crate) fn beat_reply_row(
     if term != r.term || !is_leader_role(r) {
         return Ok(Vec::new(seat.alloc()));
     }
-    let at = from as usize;
-    r.answered[at] = r.answered[at].max(round);
+    r.reads.on_beat_reply(from, round);
     let notes = confirm_open(seat, r)?;
     send_more(seat, r, from)?;
     Ok(notes)
@@ -141,7 +110,7 @@ fn send_beats(seat: &Seat, r: &mut State) -> Result<(), NoMemory>
     for voter in seat.voters() {
         if *voter != seat.me() {
             let commit = r.matched[*voter as usize].min(r.commit);
-            let round = r.round;
+            let round = r.reads.round();
             send(seat, r, *voter, Body::Beat { commit, round })?;
         }
     }
@@ -156,7 +125,7 @@ pub(crate) fn script_beat_row(seat: &Seat, r: &mut State) -> Result<bool, NoMemo
     if is_full_now(r) || !is_leader_role(r) {
         return Ok(true);
     }
-    r.round += 1;
+    r.reads.beat();
     send_beats(seat, r)?;
     Ok(false)
 }
@@ -170,18 +139,11 @@ fn may_open(r: &State) -> bool
 
 /// A read opens.
 fn open(seat: &Seat, r: &mut State, key: Key, origin: u8) -> Result<Vec<Note>, NoMemory>
-    requires room { r.old.round + 1 < 2 ^ 64 }
+    requires room { r.old.reads.round + 1 < 2 ^ 64 }
     ensures replica { OnOk result (r.new ≡ (open_read seat.now key origin r.old).replica) }
     ensures notes { IfOk result (λ notes. notes.items ≡ (open_read seat.now key origin r.old).notes) }
 {
-    r.round += 1;
-    let read = OpenRead {
-        key,
-        origin,
-        index: r.commit,
-        round: r.round,
-    };
-    r.reads.push(read)?;
+    r.reads.ask(key, origin, r.commit)?;
     send_beats(seat, r)?;
     confirm_open(seat, r)
 }

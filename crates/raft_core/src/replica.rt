@@ -4,7 +4,8 @@ ghost use Rattle.raft_model.specs.Replica.{may_release, quiet, is_changed, ripe}
 ghost use Rattle.raft_model.specs.Saving.{is_stuck};
 ghost use Rattle.raft_model.specs.Step.{row, step, released, ready, after_ready, saved};
 ghost use Rattle.raft_model.specs.declared.state.Pending.{Pending};
-ghost use Rattle.raft_core.specs.Core.{begun, pending_id, is_pending_id};
+ghost use Rattle.raft_model.specs.Given.{pending_id, is_pending_id};
+ghost use Rattle.raft_core.specs.Core.{begun};
 ghost use Rattle.raft_core.specs.Range.{IsWithin, InRange, IsMail, IsSeat, Holds};
 ghost use Rattle.raft_core.specs.Notes.{led_notes};
 ghost use Rattle.raft_core.specs.Marks.{mark as mark_by, saved_by};
@@ -20,7 +21,7 @@ use crate::sending::{is_changed_now, may_send};
 use crate::state::fresh_state;
 use host_ids::{Batch, NoMemory};
 use log_view::Log;
-use raft_model::{Input, Note, Role, State};
+use raft_model::{Input, Note, Received, Role, State};
 use std::alloc::Global;
 use std::collections::VecDeque;
 use std::marker::Model;
@@ -181,6 +182,16 @@ impl Replica {
         match &self.state.pending {
             None => None,
             Some(pending) => Some(&pending.batch),
+        }
+    }
+
+    /// The snapshot that was received whole and isn't put in place yet, if there is one.
+    pub fn inbox(&self) -> Option<&Received>
+        ensures { option_copied result ≡ option_map (λ b. b.received) self.now.state.inbox }
+    {
+        match &self.state.inbox {
+            None => None,
+            Some(inbox) => Some(&inbox.received),
         }
     }
 

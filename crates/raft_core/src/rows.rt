@@ -1,7 +1,7 @@
 ghost use Rattle.std.specs.Prelude.{◌≡◌, ◌≤◌, ◌<◌, ◌+◌, ◌^◌, ◌∷◌, [], length, true, OnOk, IfOk, IfSome, IsSomeAnd};
 ghost use Rattle.raft_model.specs.declared.note.Note.TheVariants as kinds_of_notes;
 ghost use Rattle.log_view.specs.Log.{last};
-ghost use Rattle.raft_model.specs.Roster.{at};
+ghost use Rattle.roster.specs.Roster.{at};
 ghost use Rattle.raft_model.specs.Replica.{in_term, is_candidate};
 ghost use Rattle.raft_model.specs.Step.{on_body, row};
 ghost use Rattle.raft_core.specs.Range.{InRange, BodyWithin, IsWithin};

@@ -17,7 +17,7 @@ pub(crate) struct Seat {
 impl Model for Seat {
     ghost use Rattle.std.specs.Prelude.{◌≤◌, length};
     ghost use Rattle.std.specs.List.{All};
-    ghost use Rattle.raft_model.specs.Roster.{Seat as SeatValue};
+    ghost use Rattle.roster.specs.Roster.{Seat as SeatValue};
 
     ghost Value = { SeatValue };
 

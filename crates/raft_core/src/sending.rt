@@ -73,7 +73,7 @@ pub(crate) fn is_follower_role(r: &State) -> bool
 pub(crate) fn is_full_now(r: &State) -> bool
     ensures { result ≡ is_full r.now }
 {
-    r.term >= 1 << 62 || r.log.last() >= 1 << 62 || r.round >= 1 << 62
+    r.term >= 1 << 62 || r.log.last() >= 1 << 62 || r.reads.round() >= 1 << 62
 }
 
 pub(crate) fn is_changed_now(r: &State) -> bool
@@ -119,7 +119,7 @@ pub(crate) fn take_term(r: &mut State, term: u64)
         r.role = Role::Follower;
         r.leader = 0;
         r.granted = [false; 10];
-        r.reads.clear();
+        r.reads.close();
     }
 }
 

@@ -1,7 +1,7 @@
 ghost use Rattle.std.specs.Prelude.{◌≡◌, ◌≤◌, ◌<◌, ◌+◌, ◌-◌, ◌^◌, ◌++◌, ◌∷◌, [], length, OnOk, IfOk, IfSome, List};
 ghost use Rattle.std.specs.List.{flat_map};
 ghost use Rattle.log_view.specs.Log.{last};
-ghost use Rattle.raft_model.specs.Roster.{at};
+ghost use Rattle.roster.specs.Roster.{at};
 ghost use Rattle.raft_model.specs.Replica.{ripe};
 ghost use Rattle.raft_model.specs.Snapping.{belongs, is_next, is_first, after_take, counted_in, taken, on_chunk, on_snap_reply, sends_chunk, compacted, stays, based, replied, installed};
 
@@ -10,7 +10,7 @@ use crate::seat::Seat;
 use crate::sending::{is_follower_role, is_leader_role, send, send_in};
 use host_ids::{NoMemory, Text};
 use log_view::Log;
-use raft_model::{Chunk, Inbox, State};
+use raft_model::{Chunk, Inbox, Received, State};
 use std::alloc::Global;
 use wire_codec::Body;
 
@@ -176,9 +176,7 @@ fn count_in(seat: &Seat, r: &mut State, from: u8, chunk: Chunk) -> Result<(), No
         let bytes = joined(seat.alloc(), r.assembly.items())?;
         r.assembly.clear();
         r.inbox = Some(Inbox {
-            index,
-            term,
-            bytes,
+            received: Received { index, term, bytes },
             sender: from,
             count,
         });

@@ -2,7 +2,8 @@ ghost use Rattle.std.specs.Prelude.{◌≡◌};
 ghost use Rattle.raft_model.specs.Replica.{fresh};
 
 use log_view::Log;
-use raft_model::{Chunks, OpenReads, Role, State, Taken};
+use raft_model::{Chunks, Role, State, Taken};
+use read_index::Reads;
 use std::alloc::Global;
 use wire_codec::Envelopes;
 
@@ -20,9 +21,7 @@ pub(crate) fn fresh_state(alloc: Global) -> State
         granted: [false; 10],
         next: [0; 10],
         matched: [0; 10],
-        round: 0,
-        answered: [0; 10],
-        reads: OpenReads::new(alloc),
+        reads: Reads::new(alloc),
         stable: 0,
         from: 1,
         pending: None,

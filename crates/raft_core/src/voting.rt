@@ -10,6 +10,7 @@ use crate::sending::{is_candidate_role, is_full_now, is_leader_role, send};
 use host_ids::{Key, NoMemory, Proposal};
 use raft_model::{Role, State};
 use raft_vote::{Election, campaign, on_vote, on_vote_reply};
+use read_index::Reads;
 use wire_codec::Body;
 
 /// What of the replica its votes hang on.
@@ -98,9 +99,7 @@ fn crown(seat: &Seat, r: &mut State)
 {
     r.role = Role::Leader;
     r.leader = seat.me();
-    r.round = 0;
-    r.answered = [0; 10];
-    r.reads.clear();
+    r.reads = Reads::new(seat.alloc());
     r.next = [r.log.last() + 1; 10];
     r.matched = [0; 10];
     r.matched[seat.me() as usize] = r.stable;

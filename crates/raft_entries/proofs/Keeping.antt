@@ -8,9 +8,10 @@ use Rattle.host_ids.specs.declared.entry.Batch.{Batch}
 use Rattle.host_ids.specs.declared.entry.Entry.{Entry}
 use Rattle.raft_model.specs.declared.durable.Durable.{Durable}
 use Rattle.raft_model.specs.declared.input.Input.{Input}
+use Rattle.raft_model.specs.declared.saved.SavedState.{SavedState}
 use Rattle.raft_model.specs.declared.state.State.{State as Replica}
 use Rattle.raft_model.specs.declared.state.Pending.{Pending}
-use Rattle.raft_model.specs.Roster.{Seat}
+use Rattle.roster.specs.Roster.{Seat}
 use Rattle.log_view.specs.Log.{Log, Laid, is_kept, laid, append_after}
 use Rattle.raft_model.specs.Restarting.{restarted}
 use Rattle.raft_model.specs.Group.{continued, merged}
@@ -19,7 +20,7 @@ use Rattle.raft_model.specs.Step.{step, after_ready, saved}
 use Rattle.raft_entries.specs.Mail.{Property}
 use Rattle.raft_entries.specs.Parts.{Parts, parts}
 use Rattle.raft_entries.specs.Kept.{then_saved}
-use Rattle.raft_entries.specs.Has.{OfBlank, OfEntry, OfMail, OfBatch, OfParts, OfReplica, OfPending, OfInput, OfStep, OfAll, Keeps}
+use Rattle.raft_entries.specs.Has.{OfBlank, OfEntry, OfMail, OfBatch, OfSaved, OfParts, OfReplica, OfPending, OfInput, OfStep, OfAll, Keeps}
 use Rattle.raft_entries.proofs.Rows.Words.{Words, next_entry}
 use Rattle.raft_entries.proofs.Rows.Steps.{step_by, released_by, saves_by}
 use Rattle.raft_entries.proofs.Groups.Moves.{begins_with, Moves}
@@ -83,13 +84,13 @@ module _ (P : Property) where
       (λ _. of)
 
   -- where what is saved has it and a batch, the two joined have it
-  merged_of : (b p : Batch) → OfBatch P b → OfBatch P p → OfBatch P (merged b p)
+  merged_of : (b : SavedState) (p : Batch) → OfSaved P b → OfBatch P p → OfSaved P (merged b p)
   merged_of b p k of =
       let old = drop (p.front - b.front) b.entries in
       All-append (OfEntry P) (take (p.first - p.front - 1) old) p.entries (All-take (OfEntry P) (p.first - p.front - 1) old (All-drop (OfEntry P) (p.front - b.front) b.entries k)) of
 
   -- where what is saved has it and what is pending, what will be saved has it
-  then_saved_of : (b : Batch) (o : Option Pending) → OfBatch P b → IfSome o (OfPending P) → OfBatch P (then_saved b o)
+  then_saved_of : (b : SavedState) (o : Option Pending) → OfSaved P b → IfSome o (OfPending P) → OfSaved P (then_saved b o)
   then_saved_of b None k of = k
   then_saved_of b (Some p) k of = merged_of b p.batch k of.0
 
@@ -109,7 +110,7 @@ module _ (P : Property) where
         let x = save_keeps s p r blank waits k.1 in
         ((merged_of b p.batch k.0 waits.0, x.0), x.1);
     leaves = λ b r d left k.
-        ⊎_elim (λ e. subst (OfBatch P) (sym e) k.0) (λ e. subst (OfBatch P) (sym e) (then_saved_of b r.pending k.0 k.1.2)) left.batch;
+        ⊎_elim (λ e. subst (OfSaved P) (sym e) k.0) (λ e. subst (OfSaved P) (sym e) (then_saved_of b r.pending k.0 k.1.2)) left.batch;
     restarts = λ d left. (left, restarted_of d left);
     lists = λ d b r of k. continued_of d r of k.1;
   }

@@ -8,10 +8,11 @@ use Rattle.host_ids.specs.declared.proposal.Proposal.{Proposal}
 use Rattle.host_ids.specs.declared.proposal.Proposal.TheVariants as proposals
 use Rattle.wire_codec.specs.declared.envelope.Envelope.{Envelope}
 use Rattle.raft_model.specs.declared.input.Input.{Input}
+use Rattle.raft_model.specs.declared.saved.SavedState.{SavedState}
 use Rattle.raft_model.specs.declared.state.State.{State as Replica}
 use Rattle.raft_model.specs.declared.state.Pending.{Pending}
 use Rattle.raft_model.specs.Replica.{no_key}
-use Rattle.raft_model.specs.Roster.{Seat}
+use Rattle.roster.specs.Roster.{Seat}
 use Rattle.raft_model.specs.Step.{Step, step, after_ready, saved}
 use Rattle.raft_entries.specs.Parts.{Parts, parts}
 use Rattle.raft_entries.specs.Mail.{Property, InMail}
@@ -32,6 +33,10 @@ OfMail P = InMail P (λ t prev es. All (OfEntry P) es)
 -- the entries of a batch have it
 abbrev pub OfBatch : Property → Batch → Type 0
 OfBatch P b = All (OfEntry P) b.entries
+
+-- the entries of what is saved have it
+abbrev pub OfSaved : Property → SavedState → Type 0
+OfSaved P b = All (OfEntry P) b.entries
 
 -- the entries of a pending batch have it, and the envelopes that wait for it
 abbrev pub OfPending : Property → Pending → Type 0
@@ -59,7 +64,7 @@ OfAll P = record {
   Own = P;
   Mail = OfMail P;
   Left = λ d. OfBatch P d.batch;
-  Host = λ b r. OfBatch P b × OfReplica P r;
+  Host = λ b r. OfSaved P b × OfReplica P r;
   Listed = All (OfEntry P);
 }
 

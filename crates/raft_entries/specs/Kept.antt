@@ -12,7 +12,8 @@ use Rattle.raft_model.specs.declared.input.Input.{Input}
 use Rattle.raft_model.specs.declared.input.Input.TheVariants as inputs
 use Rattle.raft_model.specs.declared.state.State.{State as Replica}
 use Rattle.raft_model.specs.declared.state.Pending.{Pending}
-use Rattle.raft_model.specs.Restarting.{begun_log, begun_commit}
+use Rattle.raft_model.specs.declared.saved.SavedState.{SavedState}
+use Rattle.raft_model.specs.Restarting.{state_of, begun_log, begun_commit}
 use Rattle.raft_model.specs.Group.{Group, replica_at, saved_at, merged, act, run, fresh_group}
 use Rattle.raft_entries.specs.Mail.{Property}
 
@@ -21,7 +22,7 @@ pub record Having : Type 1 where
   pub Own : Property
   pub Mail : Envelope → Type 0
   pub Left : Durable → Type 0
-  pub Host : Batch → Replica → Type 0
+  pub Host : SavedState → Replica → Type 0
   pub Listed : List Entry → Type 0
 
 -- what has to come with an input of a replica
@@ -58,15 +59,15 @@ pub record Holds (H : Having) (g : Group) : Type 0 where
   pub decided : H.Listed g.decided
 
 -- what is saved once nothing is pending
-abbrev pub then_saved : Batch → Option Pending → Batch
-then_saved b pending = elim pending as (λ _. Batch) [ None ↦ b | Some p ↦ merged b p.batch ]
+abbrev pub then_saved : SavedState → Option Pending → SavedState
+then_saved b pending = elim pending as (λ _. SavedState) [ None ↦ b | Some p ↦ merged b p.batch ]
 
--- the same saved state: a batch's number and first index don't count
-abbrev pub IsState : Batch → Batch → Type 0
-IsState a b = b ≡ record a { id = b.id; first = b.first }
+-- the same saved state, as a batch says it: the batch's number and first index don't count
+abbrev pub IsState : SavedState → Batch → Type 0
+IsState a b = state_of b ≡ a
 
 -- what a crash may leave of a host: what it has saved, alone or with its whole pending batch, in a log that reaches the commit index
-pub record IsLeft (b : Batch) (r : Replica) (d : Durable) : Type 0 where
+pub record IsLeft (b : SavedState) (r : Replica) (d : Durable) : Type 0 where
   pub batch : IsState b d.batch ⊎ IsState (then_saved b r.pending) d.batch
   pub committed : begun_commit d ≤ last (begun_log d)
 

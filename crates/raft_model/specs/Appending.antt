@@ -6,7 +6,7 @@ use Rattle.raft_model.specs.declared.role.Role.TheVariants.{Follower}
 use Rattle.raft_model.specs.declared.progress.Appended.{Appended}
 use Rattle.raft_model.specs.declared.progress.Appended.TheVariants.{Refused, Stored}
 use Rattle.raft_model.specs.declared.progress.Progress.{Progress}
-use Rattle.raft_model.specs.Roster.{Seat, at}
+use Rattle.roster.specs.Roster.{Seat, at}
 use Rattle.log_view.specs.Log.{Log, last, term_at, laid}
 use Rattle.raft_model.specs.declared.state.State.{State as Replica}
 use Rattle.raft_model.specs.Replica.{Row, quiet, is_leader, sent, append_to, commit_rule, lowered}

@@ -1,5 +1,5 @@
 -- A group: its replicas, which are up, the wire, what each has saved, and the one decided list. Source: dissertation chapter 3; the wire that keeps every envelope, what is saved when, and the refusals are this project's own.
-use Rattle.std.specs.Prelude.{ℕ, ◌+◌, ◌-◌, ◌==◌, ◌&&◌, List, [], ◌∷◌, ◌++◌, Bool, true, false, not, nat_lt, nat_le, length, take, drop, Option, Some, None, slice_get, slice_set, slice_index_or, replicate, is_some, if◌then◌else◌, zero, suc}
+use Rattle.std.specs.Prelude.{ℕ, ◌-◌, ◌==◌, ◌&&◌, List, [], ◌∷◌, ◌++◌, Bool, true, false, not, nat_lt, nat_le, length, take, drop, Option, Some, None, slice_get, slice_set, slice_index_or, replicate, is_some, if◌then◌else◌, zero, suc}
 use Rattle.std.specs.BTreeMap.{insert_entry, is_at}
 use Rattle.std.specs.Map.{lookup}
 use Rattle.std.specs.declared.cmp.Ordering.{Ordering}
@@ -10,6 +10,7 @@ use Rattle.host_ids.specs.declared.entry.Key.{Key}
 use Rattle.wire_codec.specs.declared.envelope.Envelope.{Envelope}
 use Rattle.host_ids.specs.declared.entry.Batch.{Batch}
 use Rattle.raft_model.specs.declared.durable.Durable.{Durable}
+use Rattle.raft_model.specs.declared.saved.SavedState.{SavedState}
 use Rattle.raft_model.specs.declared.input.Input.{Input}
 use Rattle.raft_model.specs.declared.input.Input.TheVariants as inputs
 use Rattle.raft_model.specs.declared.event.LaneEvent.{LaneEvent}
@@ -18,12 +19,12 @@ use Rattle.raft_model.specs.declared.event.LaneFault.{LaneFault}
 use Rattle.raft_model.specs.declared.event.LaneFault.TheVariants as faults
 use Rattle.raft_model.specs.declared.note.Note.{Note}
 use Rattle.raft_model.specs.declared.note.Note.TheVariants as notes
-use Rattle.raft_model.specs.Roster.{Seat}
+use Rattle.roster.specs.Roster.{Seat}
 use Rattle.log_view.specs.Log.{term_in}
 use Rattle.raft_model.specs.declared.state.State.{State as Replica}
 use Rattle.raft_model.specs.declared.state.Pending.{Pending}
 use Rattle.raft_model.specs.Replica.{fresh, ripe}
-use Rattle.raft_model.specs.Restarting.{restarted}
+use Rattle.raft_model.specs.Restarting.{state_of, restarted}
 use Rattle.raft_model.specs.Step.{Step, step, ready, after_ready, saved}
 
 pub record Group : Type 0 where
@@ -32,12 +33,12 @@ pub record Group : Type 0 where
   pub replicas : List Replica  -- a table by host
   pub up : List Bool
   pub wire : List Envelope
-  pub saves : List Batch  -- what each has saved, as one batch of all kept entries
+  pub saves : List SavedState  -- what each has saved
   pub decided : List Entry
   pub asks : List (Key × ℕ)  -- by key, the decided list's length at the first asking of a read with it
 
-abbrev pub nothing_saved : Batch
-nothing_saved = record { id = 0; term = 0; vote = 0; commit = 0; front = 0; front_term = 0; first = 1; entries = [] }
+abbrev pub nothing_saved : SavedState
+nothing_saved = record { term = 0; vote = 0; commit = 0; front = 0; front_term = 0; entries = [] }
 
 abbrev pub replica_at : Group → ℕ → Replica
 replica_at g h = slice_index_or g.replicas h fresh
@@ -45,7 +46,7 @@ replica_at g h = slice_index_or g.replicas h fresh
 abbrev pub is_up : Group → ℕ → Bool
 is_up g h = slice_index_or g.up h false
 
-abbrev pub saved_at : Group → ℕ → Batch
+abbrev pub saved_at : Group → ℕ → SavedState
 saved_at g h = slice_index_or g.saves h nothing_saved
 
 abbrev pub fresh_group : ℕ → List ℕ → Group
@@ -91,20 +92,18 @@ at_up g h a = if not (is_member g h) then refuses g faults.NotMember else (if is
 
 abbrev pub readies : Group → ℕ → Acted
 readies g h = elim (ready (replica_at g h)) as (λ _. Acted) [
-  | None ↦ did g (notes.Idle ∷ [])
+  | None ↦ did (moved g h (replica_at g h) []) (notes.Idle ∷ [])
   | Some b ↦ did (moved g h (after_ready (replica_at g h)) []) (notes.Pending h b.id ∷ [])
 ]
 
 -- what is saved after a batch: its front, the old entries between that and its first one, and its own
-abbrev pub merged : Batch → Batch → Batch
+abbrev pub merged : SavedState → Batch → SavedState
 merged old b = record {
-  id = b.id;
   term = b.term;
   vote = b.vote;
   commit = b.commit;
   front = b.front;
   front_term = b.front_term;
-  first = b.front + 1;
   entries = take (b.first - b.front - 1) (drop (b.front - old.front) old.entries) ++ b.entries;
 }
 
@@ -143,7 +142,7 @@ abbrev pub restarts : Group → ℕ → Durable → Acted
 restarts g h d =
     if not (is_member g h) then refuses g faults.NotMember
     else (if is_up g h then refuses g faults.IsUp
-    else did (moved (record g { up = slice_set g.up h true; saves = slice_set g.saves h d.batch }) h (restarted d) []) [])
+    else did (moved (record g { up = slice_set g.up h true; saves = slice_set g.saves h (state_of d.batch) }) h (restarted d) []) [])
 
 unfoldable pub act : LaneEvent → Group → Acted
 act (events.Timeout h) g = at_up g h (inputs_at g h inputs.Timeout)
@@ -168,7 +167,11 @@ abbrev pub term_of : List Entry → ℕ → ℕ
 term_of d zero = 0
 term_of d (suc k) = term_in d k
 
--- all notes of a list of events, and the group behind them
+-- the snapshot that a host has received is of this place and this term
+abbrev pub is_named : Group → ℕ → ℕ → ℕ → Bool
+is_named g h i t = elim (replica_at g h).inbox as (λ _. Bool) [ None ↦ false | Some b ↦ (b.received.index == i) && (b.received.term == t) ]
+
+-- all notes of a list of events, and the group after them
 pub record Ran : Type 0 where
   pub group : Group
   pub notes : List Note

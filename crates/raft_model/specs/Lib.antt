@@ -1,4 +1,3 @@
-pub mod Roster
 pub mod Fit
 pub mod Replica
 pub mod Voting
@@ -10,14 +9,5 @@ pub mod Saving
 pub mod Restarting
 pub mod Step
 pub mod Group
-pub mod Runs
-pub mod Followed
-pub mod Minority
-pub mod Repeated
-pub mod Deposed
-pub mod Lagging
-pub mod Crashed
-pub mod Installed
-pub mod DrawnThree
-pub mod DrawnFive
-pub mod DrawnApart
+pub mod Given
+pub mod Allowed

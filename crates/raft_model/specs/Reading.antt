@@ -1,10 +1,11 @@
 -- The rows of Beat, BeatReply, ReadAsk and ReadAnswer, of the script's beat and of the local read. Source: dissertation section 6.4; the round 0 for a beat of a smaller term is this project's own: rounds begin at 1, so it confirms nothing.
-use Rattle.std.specs.Prelude.{ℕ, ◌+◌, ◌==◌, ◌||◌, ◌&&◌, List, [], ◌∷◌, ◌++◌, Bool, not, nat_lt, nat_le, min, max, slice_set, if◌then◌else◌}
+use Rattle.std.specs.Prelude.{ℕ, ◌==◌, ◌||◌, ◌&&◌, List, [], ◌∷◌, ◌++◌, Bool, not, nat_lt, min, max, if◌then◌else◌}
 use Rattle.host_ids.specs.declared.entry.Key.{Key}
 use Rattle.wire_codec.specs.declared.envelope.Body.TheVariants as kinds
-use Rattle.raft_model.specs.declared.read.OpenRead.{OpenRead}
+use Rattle.read_index.specs.declared.reads.OpenRead.{OpenRead}
+use Rattle.read_index.specs.Reads as index
 use Rattle.raft_model.specs.declared.note.Note.TheVariants as notes
-use Rattle.raft_model.specs.Roster.{Seat, at, is_majority}
+use Rattle.roster.specs.Roster.{Seat, at}
 use Rattle.log_view.specs.Log.{last, term_at}
 use Rattle.raft_model.specs.declared.state.State.{State as Replica}
 use Rattle.raft_model.specs.Replica.{Row, quiet, notes_idle, notes_dropped, is_leader, is_full, sent, sent_in, each_other}
@@ -21,7 +22,11 @@ on_beat s from t c round r =
 
 -- a majority, this replica among it, has answered the read's round
 abbrev pub is_answered : Seat → Replica → OpenRead → Bool
-is_answered s r read = is_majority s.voters (λ v. (v == s.me) || nat_le read.round (at r.answered v))
+is_answered s r read = index.is_answered s.voters s.me r.reads read
+
+-- a read waits on, after those that do
+abbrev pub waits_on : OpenRead → Replica → Replica
+waits_on read r = record r { reads = record r.reads { waiting = r.reads.waiting ++ read ∷ [] } }
 
 -- a confirmed read is noted where it was asked here, and answered to the host that handed it on
 abbrev pub confirmed : Seat → OpenRead → Row → Row
@@ -34,13 +39,13 @@ abbrev pub confirm : Seat → List OpenRead → Row → Row
 confirm s [] w = w
 confirm s (read ∷ more) w =
     if is_answered s w.replica read then confirm s more (confirmed s read w)
-    else confirm s more (record w { replica = record w.replica { reads = w.replica.reads ++ read ∷ [] } })
+    else confirm s more (record w { replica = waits_on read w.replica })
 
 abbrev pub confirms : Seat → Replica → Row
-confirms s r = confirm s r.reads (quiet (record r { reads = [] }))
+confirms s r = confirm s r.reads.waiting (quiet (record r { reads = index.closed r.reads }))
 
 abbrev pub answers_round : ℕ → ℕ → Replica → Replica
-answers_round v round r = record r { answered = slice_set r.answered v (max (at r.answered v) round) }
+answers_round v round r = record r { reads = index.answers_round v round r.reads }
 
 abbrev pub then_more_to : Seat → ℕ → Row → Row
 then_more_to s v w = record w { replica = more_to s v w.replica }
@@ -53,10 +58,10 @@ on_beat_reply s from t round r =
 
 -- each other voter is sent what it has matched of the commit index, and the round
 abbrev pub beats : Seat → Replica → Replica
-beats s r = each_other s.me (λ v q. sent s v (kinds.Beat (min (at q.matched v) q.commit) q.round) q) s.voters r
+beats s r = each_other s.me (λ v q. sent s v (kinds.Beat (min (at q.matched v) q.commit) q.reads.round) q) s.voters r
 
 abbrev pub next_round : Replica → Replica
-next_round r = record r { round = r.round + 1 }
+next_round r = record r { reads = index.next_round r.reads }
 
 -- | Beat of the script | Leader | round + 1; send Beat{least of matched and commit, round} to each other |
 -- | Beat of the script | else, or full | note Idle |
@@ -69,7 +74,7 @@ may_read r = is_leader r && (term_at r.log r.commit == r.term)
 
 -- a read opens at the commit index, for the round that begins with it
 abbrev pub opened : Key → ℕ → Replica → Replica
-opened key origin r = record r { reads = r.reads ++ record { key = key; origin = origin; index = r.commit; round = r.round } ∷ [] }
+opened key origin r = record r { reads = index.opened key origin r.commit r.reads }
 
 abbrev pub open_read : Seat → Key → ℕ → Replica → Row
 open_read s key origin r = confirms s (beats s (opened key origin (next_round r)))

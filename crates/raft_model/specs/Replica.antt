@@ -10,7 +10,8 @@ use Rattle.raft_model.specs.declared.role.Role.TheVariants.{Follower, Candidate,
 use Rattle.raft_model.specs.declared.state.State.{State as Replica}
 use Rattle.raft_model.specs.declared.note.Note.{Note}
 use Rattle.raft_model.specs.declared.note.Note.TheVariants as notes
-use Rattle.raft_model.specs.Roster.{Seat, at, all_at, none_set, is_majority}
+use Rattle.roster.specs.Roster.{Seat, at, all_at, none_set, is_majority}
+use Rattle.read_index.specs.Reads.{no_reads, closed}
 use Rattle.log_view.specs.Log
 use Rattle.log_view.specs.Log.{Log, last, term_at, term_in, slice}
 
@@ -26,9 +27,7 @@ fresh = record {
   granted = none_set;
   next = all_at 0;
   matched = all_at 0;
-  round = 0;
-  answered = all_at 0;
-  reads = [];
+  reads = no_reads;
   stable = 0;
   from = 1;
   pending = None;
@@ -134,9 +133,7 @@ abbrev pub crowned : Seat → Replica → Replica
 crowned s r = record r {
   role = Leader;
   leader = s.me;
-  round = 0;
-  answered = all_at 0;
-  reads = [];
+  reads = no_reads;
   next = all_at (last r.log + 1);
   matched = slice_set (all_at 0) s.me r.stable;
 }
@@ -147,11 +144,11 @@ lead s r = record { replica = appended_to_all s no_key proposals.Blank (crowned 
 
 -- a greater term is taken over before the row of its envelope: term = t, vote = 0, role Follower, leader = 0, no grants, no open reads
 abbrev pub in_term : ℕ → Replica → Replica
-in_term t r = if nat_lt r.term t then record r { term = t; vote = 0; role = Follower; leader = 0; granted = none_set; reads = [] } else r
+in_term t r = if nat_lt r.term t then record r { term = t; vote = 0; role = Follower; leader = 0; granted = none_set; reads = closed r.reads } else r
 
 -- a replica whose term, last index or round is 2^62 or more takes no more
 abbrev pub is_full : Replica → Bool
-is_full r = nat_le (2 ^ 62) r.term || nat_le (2 ^ 62) (last r.log) || nat_le (2 ^ 62) r.round
+is_full r = nat_le (2 ^ 62) r.term || nat_le (2 ^ 62) (last r.log) || nat_le (2 ^ 62) r.reads.round
 
 -- the last index that may be applied: it is both committed and saved
 abbrev pub ripe : Replica → ℕ

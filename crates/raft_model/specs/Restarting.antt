@@ -1,13 +1,18 @@
 -- A replica that starts again, from what its store has, the mark of its snapshot and its machine's durable index. Source: dissertation chapter 5; that the commit index is saved is this project's own.
 use Rattle.std.specs.Prelude.{ℕ, ◌^◌, ◌+◌, ◌&&◌, Bool, not, nat_lt, nat_le, max, if◌then◌else◌}
 use Rattle.host_ids.specs.declared.entry.Batch.{Batch}
+use Rattle.raft_model.specs.declared.saved.SavedState.{SavedState}
 use Rattle.raft_model.specs.declared.durable.Durable.{Durable}
 use Rattle.log_view.specs.Log.{Log, last, reset}
 use Rattle.raft_model.specs.Snapping.{stays}
 use Rattle.raft_model.specs.declared.state.State.{State as Replica}
 use Rattle.raft_model.specs.Replica.{fresh}
 
-abbrev pub log_of : Batch → Log
+-- what a store has, which it tells as one batch of all kept entries
+abbrev pub state_of : Batch → SavedState
+state_of b = record { term = b.term; vote = b.vote; commit = b.commit; front = b.front; front_term = b.front_term; entries = b.entries }
+
+abbrev pub log_of : SavedState → Log
 log_of b = record { front = b.front; front_term = b.front_term; entries = b.entries }
 
 -- a log that doesn't hold the marked place gives way to it
@@ -15,7 +20,7 @@ abbrev pub marked_log : Log → ℕ → ℕ → Log
 marked_log l s t = if nat_lt l.front s && not (stays l s t) then reset s t else l
 
 abbrev pub begun_log : Durable → Log
-begun_log d = marked_log (log_of d.batch) d.mark d.mark_term
+begun_log d = marked_log (log_of (state_of d.batch)) d.mark d.mark_term
 
 -- the greatest index that is known as decided
 abbrev pub begun_commit : Durable → ℕ

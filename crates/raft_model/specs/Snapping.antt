@@ -3,7 +3,7 @@ use Rattle.std.specs.Prelude.{ℕ, ◌+◌, ◌==◌, ◌&&◌, List, [], ◌∷
 use Rattle.std.specs.List.{flat_map}
 use Rattle.raft_model.specs.declared.chunk.Chunk.{Chunk}
 use Rattle.wire_codec.specs.declared.envelope.Body.TheVariants as kinds
-use Rattle.raft_model.specs.Roster.{Seat}
+use Rattle.roster.specs.Roster.{Seat}
 use Rattle.log_view.specs.Log.{Log, last, term_at, cut_front, reset}
 use Rattle.raft_model.specs.declared.state.State.{State as Replica}
 use Rattle.raft_model.specs.declared.state.Inbox.{Inbox}
@@ -48,7 +48,7 @@ abbrev pub after_take : Seat → ℕ → Chunk → Took → Replica → Replica
 after_take s from c w r =
     elim w.whole as (λ _. Replica) [
       | None ↦ sent s from (kinds.SnapReply c.index w.want false) (record r { assembly = w.hand })
-      | Some bytes ↦ record r { assembly = w.hand; inbox = Some (record { index = c.index; term = c.last_term; bytes = bytes; sender = from; count = c.count }) }
+      | Some bytes ↦ record r { assembly = w.hand; inbox = Some (record { received = record { index = c.index; term = c.last_term; bytes = bytes }; sender = from; count = c.count }) }
     ]
 
 -- | SnapChunk | t < term | send SnapReply{index, 0, 0} |

@@ -7,7 +7,7 @@ use Rattle.host_ids.specs.declared.entry.Batch.{Batch}
 use Rattle.raft_model.specs.declared.input.Input.{Input}
 use Rattle.raft_model.specs.declared.input.Input.TheVariants as inputs
 use Rattle.raft_model.specs.declared.note.Note.{Note}
-use Rattle.raft_model.specs.Roster.{Seat}
+use Rattle.roster.specs.Roster.{Seat}
 use Rattle.raft_model.specs.declared.state.State.{State as Replica}
 use Rattle.raft_model.specs.declared.state.Pending.{Pending}
 use Rattle.raft_model.specs.Replica.{Row, in_term, may_release}

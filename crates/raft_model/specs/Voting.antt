@@ -3,7 +3,7 @@ use Rattle.std.specs.Prelude.{ℕ, ◌+◌, ◌==◌, ◌||◌, ◌&&◌, List, 
 use Rattle.wire_codec.specs.declared.envelope.Body.TheVariants as kinds
 use Rattle.raft_model.specs.declared.election.Election.{Election}
 use Rattle.raft_model.specs.declared.role.Role.TheVariants.{Candidate}
-use Rattle.raft_model.specs.Roster.{Seat, is_set, none_set, is_majority}
+use Rattle.roster.specs.Roster.{Seat, is_set, none_set, is_majority}
 use Rattle.log_view.specs.Log.{last, last_term}
 use Rattle.raft_model.specs.declared.state.State.{State as Replica}
 use Rattle.raft_model.specs.Replica.{Row, quiet, notes_idle, is_leader, is_candidate, is_full, sent, each_other, lead}

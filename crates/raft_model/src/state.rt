@@ -1,8 +1,8 @@
 use crate::chunks::Chunks;
-use crate::reads::OpenReads;
 use crate::role::Role;
 use host_ids::{Batch, Text};
 use log_view::Log;
+use read_index::Reads;
 use wire_codec::Envelopes;
 
 /// A batch that is being saved, with the envelopes that wait for it. Source: this project's own.
@@ -14,15 +14,22 @@ pub struct Pending {
     pub envelopes: Envelopes,
 }
 
-/// A received snapshot. Source: dissertation section 5.1.
+/// A snapshot that was received whole. Source: dissertation section 5.1.
 #[derive(Debug, Drop)]
-pub struct Inbox {
+pub struct Received {
     /// The index up to which it goes.
     pub index: u64,
     /// The term of that entry.
     pub term: u64,
     /// Its bytes.
     pub bytes: Text,
+}
+
+/// A received snapshot, and whom to answer once it is in place. Source: this project's own.
+#[derive(Debug, Drop)]
+pub struct Inbox {
+    /// The snapshot.
+    pub received: Received,
     /// The host that sent its last piece.
     pub sender: u8,
     /// The number of its pieces.
@@ -67,12 +74,8 @@ pub struct State {
     pub next: [u64; 10],
     /// The index up to which each voter's log is known to agree.
     pub matched: [u64; 10],
-    /// The last round of beats.
-    pub round: u64,
-    /// The greatest round that each voter answered.
-    pub answered: [u64; 10],
-    /// The reads that wait for a round to be answered.
-    pub reads: OpenReads,
+    /// The rounds of beats, who answered them, and the reads that wait for that.
+    pub reads: Reads,
     /// The last index that is saved.
     pub stable: u64,
     /// The least index that changed since the last batch was taken, else the last index and 1.

@@ -1,3 +1,4 @@
+mod Allowed
 mod Argument
 mod Frame
 mod Elections

@@ -1,7 +1,7 @@
 -- What the invariant remembers of a run, and what it says of logs alone. Source: dissertation sections 3.6 and 3.8; the history is this project's own.
 use Rattle.std.specs.Prelude.{false, ◌≡◌, ◌⊎◌, ℕ, ◌<◌, ◌≤◌, List, [], ◌∷◌, length, take, drop, Bool, true, nat_le}
 use Rattle.host_ids.specs.declared.entry.Entry.{Entry}
-use Rattle.raft_model.specs.Roster.{is_majority}
+use Rattle.roster.specs.Roster.{is_majority}
 use Rattle.raft_model.specs.Group.{term_of}
 
 -- a reign: a term that was led, by whom, and with which log

@@ -1,13 +1,13 @@
 -- The invariant: what every list of allowed events keeps of a group. Source: dissertation section 3.6; the form is this project's own.
 use Rattle.std.specs.Prelude.{◌≡◌, ◌≢◌, ◌⊎◌, ℕ, ◌<◌, ◌≤◌, List, [], ◌∷◌, length, true, false, Some}
 use Rattle.host_ids.specs.declared.entry.Entry.{Entry}
-use Rattle.host_ids.specs.declared.entry.Batch.{Batch}
+use Rattle.raft_model.specs.declared.saved.SavedState.{SavedState}
 use Rattle.wire_codec.specs.declared.envelope.Envelope.{Envelope}
 use Rattle.wire_codec.specs.declared.envelope.Body.TheVariants as kinds
 use Rattle.raft_model.specs.declared.state.State.{State as Replica}
 use Rattle.raft_model.specs.declared.state.Pending.{Pending}
 use Rattle.raft_model.specs.declared.state.Inbox.{Inbox}
-use Rattle.raft_model.specs.Roster.{is_majority}
+use Rattle.roster.specs.Roster.{is_majority}
 use Rattle.raft_model.specs.Group.{Group, replica_at, saved_at, is_member, term_of, is_decided}
 use Rattle.raft_safety.specs.History.{Reign, History, IsLed, Agree, IsOwn, IsSafe, IsChosen, IsStrict, MatchesWithin, Counts}
 use Rattle.raft_safety.specs.Replicas.{of_batch, of_replica, to_be_saved, IsSecured, Stands}
@@ -98,16 +98,16 @@ pub record Common (voters : List ℕ) (h : History) (d : List Entry) (Secured : 
   pub bounded : (v t : ℕ) → (h.told v t ≡ 0) ⊎ IsBounded h v t
 
 -- the sentences on one host, by what it has saved and its replica
-pub record IsHost (h : History) (d : List Entry) (Secured Answers : ℕ → ℕ → ℕ → Type 0) (v : ℕ) (b : Batch) (r : Replica) : Type 0 where
+pub record IsHost (h : History) (d : List Entry) (Secured Answers : ℕ → ℕ → ℕ → Type 0) (v : ℕ) (b : SavedState) (r : Replica) : Type 0 where
   pub stands : Stands h d Secured Answers v b r
   pub held : TellsAll h d Answers h.told v r.held (of_replica d r)
   pub waiting : (p : Pending) → r.pending ≡ Some p → TellsAll h d Answers h.saving v p.envelopes (of_batch d (to_be_saved b r)) × TellsAll h d Answers h.saving v p.envelopes (of_replica d r)
-  pub inbox : (s : Inbox) → r.inbox ≡ Some s → is_decided d s.index s.term ≡ true
+  pub inbox : (s : Inbox) → r.inbox ≡ Some s → is_decided d s.received.index s.received.term ≡ true
   pub covered : r.log.front ≤ r.stable
   pub based : (b.front_term ≡ term_of d b.front) × ((to_be_saved b r).front_term ≡ term_of d (to_be_saved b r).front) × (r.log.front_term ≡ term_of d r.log.front)
 
 -- an envelope on the wire binds its sender at all three stages
-pub record IsTold (h : History) (d : List Entry) (Answers : ℕ → ℕ → ℕ → Type 0) (e : Envelope) (b : Batch) (r : Replica) : Type 0 where
+pub record IsTold (h : History) (d : List Entry) (Answers : ℕ → ℕ → ℕ → Type 0) (e : Envelope) (b : SavedState) (r : Replica) : Type 0 where
   pub saved : Tells h d Answers h.answer e.from e.to e.term e.body (of_batch d b)
   pub saving : Tells h d Answers h.answer e.from e.to e.term e.body (of_batch d (to_be_saved b r))
   pub now : Tells h d Answers h.answer e.from e.to e.term e.body (of_replica d r)

@@ -1,11 +1,11 @@
 -- What holds of a replica: as it was saved, with the batch that is being saved, and as it stands. Source: this project's own.
 use Rattle.std.specs.Prelude.{◌≡◌, ◌≢◌, ◌⊎◌, ℕ, ◌+◌, ◌-◌, ◌<◌, ◌≤◌, List, ◌++◌, length, take, drop, max, true, Bool, Some, None}
 use Rattle.host_ids.specs.declared.entry.Entry.{Entry}
-use Rattle.host_ids.specs.declared.entry.Batch.{Batch}
+use Rattle.raft_model.specs.declared.saved.SavedState.{SavedState}
 use Rattle.raft_model.specs.declared.role.Role.TheVariants.{Candidate, Leader}
 use Rattle.raft_model.specs.declared.state.State.{State as Replica}
 use Rattle.raft_model.specs.declared.state.Taken.{Taken}
-use Rattle.raft_model.specs.Roster.{at, is_set}
+use Rattle.roster.specs.Roster.{at, is_set}
 use Rattle.log_view.specs.Log.{last}
 use Rattle.raft_model.specs.Group.{merged, term_of}
 use Rattle.raft_safety.specs.History.{Reign, History, IsLed, Agree, IsOwn, MatchesWithin, IsOld, Counts, Keeps}
@@ -23,7 +23,7 @@ abbrev pub whole : List Entry → ℕ → List Entry → List Entry
 whole d front es = take front d ++ es
 
 -- what is saved, or will be, as a stage
-abbrev pub of_batch : List Entry → Batch → Stage
+abbrev pub of_batch : List Entry → SavedState → Stage
 of_batch d b = record { term = b.term; vote = b.vote; commit = b.commit; front = b.front; log = whole d b.front b.entries }
 
 -- a replica as it stands, as a stage
@@ -31,8 +31,8 @@ abbrev pub of_replica : List Entry → Replica → Stage
 of_replica d r = record { term = r.term; vote = r.vote; commit = r.commit; front = r.log.front; log = whole d r.log.front r.log.entries }
 
 -- what will be saved once the pending batch is; with none pending, what is saved
-abbrev pub to_be_saved : Batch → Replica → Batch
-to_be_saved b r = elim r.pending as (λ _. Batch) [ None ↦ b | Some p ↦ merged b p.batch ]
+abbrev pub to_be_saved : SavedState → Replica → SavedState
+to_be_saved b r = elim r.pending as (λ _. SavedState) [ None ↦ b | Some p ↦ merged b p.batch ]
 
 -- what holds at each stage of a host, for what it counts as held of the leaders' logs at that stage
 pub record IsSound (h : History) (d : List Entry) (level : ℕ → ℕ → ℕ) (v : ℕ) (x : Stage) : Type 0 where
@@ -99,7 +99,7 @@ abbrev pub IsLeader : History → List Entry → (ℕ → ℕ → ℕ → Type 0
 IsLeader h d HasAnswer v r = IsReigning h d HasAnswer v r.term r.from r.matched (whole d r.log.front r.log.entries)
 
 -- the last batch that was taken says what will be saved; and where neither front nor entries changed since, the log isn't shorter than the batch left it
-pub record IsLastTaken (saving : Batch) (taken : Taken) (from base end : ℕ) : Type 0 where
+pub record IsLastTaken (saving : SavedState) (taken : Taken) (from base end : ℕ) : Type 0 where
   pub term : taken.term ≡ saving.term
   pub vote : taken.vote ≡ saving.vote
   pub commit : taken.commit ≡ saving.commit
@@ -107,11 +107,11 @@ pub record IsLastTaken (saving : Batch) (taken : Taken) (from base end : ℕ) : 
   pub tail : (from ≤ end) ⊎ ((saving.front + length saving.entries ≤ end) ⊎ (taken.front ≢ base))
 
 -- what a replica remembers of the state that was given out to be saved
-abbrev pub IsTaken : Batch → Replica → Type 0
+abbrev pub IsTaken : SavedState → Replica → Type 0
 IsTaken saving r = IsLastTaken saving r.taken r.from r.log.front (last r.log)
 
 -- what holds of a replica at its three stages, and of what it is in its term
-pub record Stands (h : History) (d : List Entry) (Secured HasAnswer : ℕ → ℕ → ℕ → Type 0) (v : ℕ) (b : Batch) (r : Replica) : Type 0 where
+pub record Stands (h : History) (d : List Entry) (Secured HasAnswer : ℕ → ℕ → ℕ → Type 0) (v : ℕ) (b : SavedState) (r : Replica) : Type 0 where
   pub saved : IsSound h d h.answer v (of_batch d b)
   pub saving : IsSound h d h.saving v (of_batch d (to_be_saved b r))
   pub now : IsSound h d h.told v (of_replica d r)

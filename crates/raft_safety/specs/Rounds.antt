@@ -9,11 +9,11 @@ use Rattle.wire_codec.specs.declared.envelope.Body.{Body}
 use Rattle.wire_codec.specs.declared.envelope.Body.TheVariants as kinds
 use Rattle.raft_model.specs.declared.state.State.{State as Replica}
 use Rattle.raft_model.specs.declared.state.Pending.{Pending}
-use Rattle.raft_model.specs.declared.read.OpenRead.{OpenRead}
+use Rattle.read_index.specs.declared.reads.OpenRead.{OpenRead}
 use Rattle.raft_model.specs.declared.role.Role.{Role}
 use Rattle.raft_model.specs.declared.role.Role.TheVariants.{Leader}
 use Rattle.raft_model.specs.declared.event.LaneEvent.{LaneEvent}
-use Rattle.raft_model.specs.Roster.{at, is_majority}
+use Rattle.roster.specs.Roster.{at, is_majority}
 use Rattle.raft_model.specs.Group.{Group, replica_at, saved_at, key_order, is_member, fresh_group, act}
 use Rattle.raft_safety.specs.Invariant.{IsOnWire, Kept}
 use Rattle.raft_safety.specs.Events.{IsAllowed}
@@ -49,7 +49,7 @@ pub record View : Type 0 where
 
 -- the part of this replica
 abbrev pub view : Replica → View
-view r = record { held = r.held; pending = r.pending; role = r.role; term = r.term; round = r.round; answered = r.answered; reads = r.reads; commit = r.commit }
+view r = record { held = r.held; pending = r.pending; role = r.role; term = r.term; round = r.reads.round; answered = r.reads.answered; reads = r.reads.waiting; commit = r.commit }
 
 -- a read with this key was asked
 pub record IsAsked (asks : Asks) (key : Key) : Type 0 where

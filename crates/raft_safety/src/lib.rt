@@ -6,21 +6,11 @@
 //! proposals, reads, crashes, starts from what a crash may leave, compaction, and snapshots in pieces.
 #![tactic(auto)]
 
-mod witness;
-
 ghost use Rattle.raft_safety.specs.OneList.{OneList};
 ghost use Rattle.raft_safety.specs.ReadFront.{ReadFront, FirstAsk};
 ghost use Rattle.raft_safety.specs.Runs.{BeginsToRun, GoesOnToRun, RunsAsOne, ActsAsOne, ActsFronted};
 ghost use Rattle.raft_safety.specs.Agreed.{BeginsKept, StaysKept, PlainKept, AgreesWhereKept};
 ghost use Rattle.raft_safety.specs.Rounds.{BeginsReads, StaysReads, NotesFronts};
-
-pub use witness::{
-    answers_need_not_be_led, answers_need_not_hold, crashes_take_back, drawn_runs_are_allowed,
-    few_events_show, install_resets_a_log, logs_may_end_in_later_terms, logs_need_not_match,
-    machine_raises_the_commit_index, mark_resets_a_saved_log, matched_need_not_be_owned,
-    matched_need_not_be_reached, start_confirms_a_read, start_keeps_a_whole_batch, terms_may_fall,
-    terms_may_fall_from_the_front, votes_may_be_taken_back, worked_runs_are_allowed,
-};
 
 /// One leader a term and one list, over every list of allowed events, crashes, starts and snapshots among
 /// them, from a group that has just begun.

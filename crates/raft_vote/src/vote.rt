@@ -1,9 +1,9 @@
 ghost use Rattle.std.specs.Prelude.{◌≡◌, ◌≤◌, ◌<◌, ◌+◌, ◌^◌, ◌&&◌, ℕ, length, if◌then◌else◌};
 ghost use Rattle.std.specs.List.{All};
-ghost use Rattle.raft_model.specs.Roster.{is_set, count};
 ghost use Rattle.raft_model.specs.Voting.{stands, grants, voted, with_grant, has_won, counts};
 
 use raft_model::Election;
+use roster::has_majority;
 
 /// The replica at host `me` stands for leader of the next term, with its own vote and with no vote
 /// counted yet: its own counts once it is saved. The term after it is below 2^64.
@@ -67,20 +67,5 @@ pub fn on_vote_reply(
         return false;
     }
     state.granted[from as usize] = true;
-    voters.len() < 2 * granted_count(voters, &state.granted)
-}
-
-/// How many of the voters are in the set.
-fn granted_count(voters: &[u8], set: &[bool; 10]) -> usize
-    requires hosts { All (λ v. v ≤ 9) voters.now }
-    ensures number { result ≡ count (is_set set.now) voters.now }
-    ensures most { result ≤ length voters.now }
-{
-    let mut number = 0;
-    for voter in voters {
-        if set[*voter as usize] {
-            number += 1;
-        }
-    }
-    number
+    has_majority(voters, &state.granted)
 }

@@ -5,7 +5,7 @@ use Rattle.std.specs.Ordering.{nat_cmp, ordering_then}
 use Rattle.host_ids.specs.declared.entry.Key.{Key}
 use Rattle.object_model.specs.Object.{Pairs}
 use Rattle.session_lru.specs.Table.{Table}
-use Rattle.raft_model.specs.Roster.{none_set, is_set}
+use Rattle.roster.specs.Roster.{none_set, is_set}
 use Rattle.raft_model.specs.Group.{Group, fresh_group, key_order}
 use Rattle.run_model.specs.declared.client.ClientSession.{ClientSession}
 use Rattle.run_model.specs.declared.told.Want.{Want}

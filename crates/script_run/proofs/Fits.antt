@@ -1,6 +1,6 @@
 -- The numbers of proposals and sessions stay in their ranges.
 use Rattle.std.proofs.Common.{◌≡◌, ℕ, zero, suc, ◌≤◌, ◌<◌, List, [], ◌∷◌, Bool, true, false, Option, Some, None, Bor, cond, length, get_or, refl, sym, arith, leb-true}
-use Rattle.std.specs.Prelude.{◌&&◌, nat_le, IfSome}
+use Rattle.std.specs.Prelude.{◌&&◌, nat_le, is_some, IfSome}
 use Rattle.std.specs.Option.{option_copied}
 use Rattle.std.specs.declared.cmp.Ordering.{Ordering}
 use Rattle.std.specs.declared.cmp.Ordering.TheVariants.{Less, Equal, Greater}
@@ -9,13 +9,19 @@ use Rattle.std.specs.Ordering.{match_ordering}
 use Rattle.std.specs.BTreeMap.{insert_entry}
 use Rattle.std.specs.Map.{lookup}
 use Rattle.std.proofs.lemmas.Bool.{and_parts, and_from}
+use Rattle.std.proofs.lemmas.Bool.Decides.{nat_tests}
 use Rattle.host_ids.specs.declared.entry.Entry.{Entry}
 use Rattle.log_view.specs.Log.{Log, slice}
 use Rattle.std.proofs.lemmas.List.{length-take}
 use Rattle.object_model.specs.Object.{key_order as text_order}
 use Rattle.run_model.specs.declared.client.ClientSession.{ClientSession}
-use Rattle.raft_model.specs.Fit.{are_fit_numbers, is_fit, are_fit, most_series}
-use Rattle.script_run.specs.Fit.{is_fit_client, are_fit_clients}
+use Rattle.raft_model.specs.Fit.{is_fit, are_fit}
+use Rattle.wire_codec.specs.Grammar.{are_fit_numbers, is_command, most_series}
+use Rattle.host_ids.specs.declared.proposal.Proposal.{Proposal}
+use Rattle.host_ids.specs.declared.proposal.Proposal.TheVariants as proposals
+use Rattle.object_model.specs.Command.{command_of}
+use Rattle.raft_model.specs.Saving.{payload}
+use Rattle.script_run.specs.Fit.{is_filled, is_ask, may_ask, is_fit_client, are_fit_clients}
 
 -- ---- numbers
 
@@ -31,6 +37,26 @@ fit_numbers client series responded h =
     let q = and_parts (nat_le 1 client && nat_le 1 series) (nat_le series most_series) p.0 in
     let r = and_parts (nat_le 1 client) (nat_le 1 series) q.0 in
     record { client_in = leb-true 1 client r.0; series_in = leb-true 1 series r.1; series_most = leb-true series most_series q.1; responded_most = leb-true responded most_series p.1 }
+
+-- ---- commands
+
+-- no command is read of an empty text
+pub filled_command : (text : List ℕ) → is_some (command_of text) ≡ true → is_filled text ≡ true
+unfolding command_of
+filled_command [] h = absurd (cc h)
+filled_command (b ∷ bs) h = let some : 1 ≤ length (b ∷ bs) = omega arith in grind (arith, nat_tests)
+
+-- what is asked may be proposed, where its command isn't too long
+pub short_ask : (p : Proposal) → is_ask p ≡ true → length (payload p) ≤ 512 → may_ask p ≡ true
+short_ask proposals.Blank h l = absurd (cc h)
+short_ask (proposals.Plain command) h l = let filled : 1 ≤ length command = leb-true 1 (length command) h in grind (arith, nat_tests)
+short_ask (proposals.Session client series responded command) h l =
+    let p = and_parts (are_fit_numbers client series responded) (is_filled command) h in
+    let filled : 1 ≤ length command = leb-true 1 (length command) p.1 in
+    let short : is_command command ≡ true = grind (arith, nat_tests) in
+    rw (p.0, short) refl
+short_ask (proposals.Register client) h l = rw h refl
+short_ask (proposals.Close client) h l = rw h refl
 
 -- ---- lists
 

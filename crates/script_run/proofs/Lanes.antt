@@ -1,5 +1,5 @@
 -- What an event leaves of a group: its voters, and all of it where it is refused.
-use Rattle.std.proofs.Common.{◌≡◌, ℕ, List, [], ◌∷◌, Option, Some, None, false, refl, sym, subst, ◌∙◌}
+use Rattle.std.proofs.Common.{◌≡◌, ℕ, List, [], ◌∷◌, Option, Some, None, false, refl, sym, ap, subst, ◌∙◌}
 use Rattle.std.specs.Prelude.{not, nat_le, ◌==◌, if◌then◌else◌, OnSome}
 use Rattle.std.proofs.lemmas.Bool.{cond_both}
 use Rattle.std.proofs.lemmas.Option.{none-some}
@@ -18,6 +18,7 @@ use Rattle.raft_model.specs.declared.note.Note.TheVariants as notes
 use Rattle.raft_model.specs.declared.state.Pending.{Pending}
 use Rattle.raft_model.specs.Replica.{ripe}
 use Rattle.raft_model.specs.Step.{ready, after_ready}
+use Rattle.group_world.specs.World.{Kept}
 use Rattle.script_run.specs.Parts.{is_memory}
 use Rattle.raft_model.specs.Group.{Group, Acted, act, at_up, compacts, delivers, did, envelope_at, inputs_at, is_asked, is_member, is_up, moved, noted_ask, readies, refuses, replica_at, restarts, saves_batch, saves_id}
 
@@ -40,8 +41,8 @@ up_leaves g h a k =
 input_leaves : (g : Group) (h at : ℕ) (input : Input) → Leaves g (at_up g at (inputs_at g h input))
 input_leaves g h at input = up_leaves g at (inputs_at g h input) (did_leaves g _ _ refl)
 
-readies_by : (g : Group) (h : ℕ) (o : Option Batch) → Leaves g (elim o as (λ _. Acted) [ None ↦ did g (notes.Idle ∷ []) | Some b ↦ did (moved g h (after_ready (replica_at g h)) []) (notes.Pending h b.id ∷ []) ])
-readies_by g h None = did_leaves g g _ refl
+readies_by : (g : Group) (h : ℕ) (o : Option Batch) → Leaves g (elim o as (λ _. Acted) [ None ↦ did (moved g h (replica_at g h) []) (notes.Idle ∷ []) | Some b ↦ did (moved g h (after_ready (replica_at g h)) []) (notes.Pending h b.id ∷ []) ])
+readies_by g h None = did_leaves g _ _ refl
 readies_by g h (Some b) = did_leaves g _ _ refl
 
 saves_by : (g : Group) (h id : ℕ) (o : Option Pending)
@@ -79,6 +80,11 @@ act_leaves (events.Compact h i) g = up_leaves g h (compacts g h i) (compacts_lea
 act_leaves (events.Installed h i t) g = input_leaves g h h (inputs.Installed i t)
 act_leaves (events.Down h) g = up_leaves g h _ (did_leaves g _ _ refl)
 act_leaves (events.Restart h d) g = restarts_leaves g h d
+
+-- a lane that is kept where this is so has the same group there
+pub kept_group : (old new : Kept) (o : Option LaneFault) → OnSome o (new ≡ old) → OnSome o (new.group ≡ old.group)
+kept_group old new None k = k
+kept_group old new (Some f) k = ap (λ (x : Kept). x.group) k
 
 -- a refusal that isn't want of memory leaves the group, and notes nothing
 pub refused_leaves : (e : LaneEvent) (g new : Group) (fault : LaneFault) (o : Option LaneFault) → (act e g).refused ≡ o → (o ≡ None → fault ≡ faults.NoMemory) → OnSome o (new ≡ g) → is_memory fault ≡ false

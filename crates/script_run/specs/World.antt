@@ -9,7 +9,7 @@ use Rattle.script_run.specs.declared.world.World.{World}
 abbrev pub world_of : World → rules.World
 world_of w = record {
   declared = w.declared;
-  group = w.lane;
+  group = w.lane.group;
   limit = w.limit;
   nodes = w.nodes.items;
   contexts = w.contexts;

@@ -1,6 +1,6 @@
 ghost use Rattle.std.specs.Prelude.{◌≡◌, ◌<◌, ◌^◌, ◌+◌, ◌-◌, ◌++◌, ◌∷◌, [], length, OnOk, IfOk, if◌then◌else◌};
 ghost use Rattle.raft_model.specs.Group.{act, is_member};
-ghost use Rattle.group_world.specs.Events.{IsGiven};
+ghost use Rattle.raft_model.specs.Given.{IsGiven};
 ghost use Rattle.run_model.specs.World.{is_declared, node_at};
 ghost use Rattle.run_model.specs.Run.{bare, core, has_any, has_group, is_ripe, is_unsaved, is_used, moved, next_key, noted, reached, unsettled};
 ghost use Rattle.script_run.specs.Parts.{is_memory, leads};
@@ -66,10 +66,10 @@ fn is_memory(fault: LaneFault) -> bool
 
 /// An event of a group: its notes. A refused event changes nothing, and has none.
 fn act_on(alloc: Global, lane: &mut Lane, event: LaneEvent) -> Result<Vec<Note>, NoMemory>
-    requires { IsGiven lane.old event }
-    ensures group { OnOk result (lane.new ≡ (act event lane.old).group) }
-    ensures notes { IfOk result (λ notes. notes.items ≡ (act event lane.old).notes) }
-    ensures voters { OnOk result (lane.new.voters ≡ lane.old.voters) }
+    requires { IsGiven lane.old.group event }
+    ensures group { OnOk result (lane.new.group ≡ (act event lane.old.group).group) }
+    ensures notes { IfOk result (λ notes. notes.items ≡ (act event lane.old.group).notes) }
+    ensures voters { OnOk result (lane.new.group.voters ≡ lane.old.group.voters) }
 {
     match lane.act(event) {
         Ok(notes) => Ok(notes),

@@ -1,6 +1,6 @@
 ghost use Rattle.std.specs.Prelude.{◌≡◌, ◌≤◌, ◌<◌, ◌++◌, ℕ, List, true, OnOk, length as list_length};
-ghost use Rattle.raft_model.specs.Fit.{is_fit};
 ghost use Rattle.run_model.specs.Run.{again, asks, call, close, completed, is_used, next_key, proposes, read_asked, read_taken, reads, register, tells, unless};
+ghost use Rattle.script_run.specs.Fit.{may_ask};
 ghost use Rattle.script_run.specs.World.{world_of, read_after};
 
 use crate::notes::{confirmed_index, is_dropped};
@@ -8,9 +8,7 @@ use crate::world::World;
 use host_ids::{Key, NoMemory, Proposal, Text};
 use raft_core::LaneEvent;
 use run_model::{ClientSession, Line, Told, Tolds, Want};
-
-/// The greatest series.
-const MOST_SERIES: u64 = u64::MAX - 2;
+use wire_codec::{MOST_COMMAND, MOST_SERIES};
 
 impl World {
     /// The line `ask`, and `raw`: asks a command of so many bytes as this proposal.
@@ -23,8 +21,8 @@ impl World {
         proposal: Proposal,
         out: &mut Tolds,
     ) -> Result<(), NoMemory>
-        requires host { host < 10 }
-        requires fit { is_fit proposal ≡ true }
+        requires host { (1 ≤ host) × (host ≤ 9) }
+        requires fit { length ≤ 512 → may_ask proposal ≡ true }
         ensures world { (command : List ℕ) → length ≡ list_length command → OnOk result (world_of self.new ≡ (asks host context command proposal (world_of self.old)).world) }
         ensures told { (command : List ℕ) → length ≡ list_length command → OnOk result (out.new ≡ out.old ++ (asks host context command proposal (world_of self.old)).told) }
     {
@@ -37,7 +35,7 @@ impl World {
         if self.is_used(&context) {
             return self.refuse(5, out);
         }
-        if length > 512 {
+        if length > MOST_COMMAND {
             return self.refuse(14, out);
         }
         self.propose(host, context, proposal, out)
@@ -53,7 +51,7 @@ impl World {
         client: u64,
         out: &mut Tolds,
     ) -> Result<(), NoMemory>
-        requires host { host < 10 }
+        requires host { (1 ≤ host) × (host ≤ 9) }
         requires client { 1 ≤ client }
         ensures world { OnOk result (world_of self.new ≡ (register host context name client (world_of self.old)).world) }
         ensures told { OnOk result (out.new ≡ out.old ++ (register host context name client (world_of self.old)).told) }
@@ -91,7 +89,8 @@ impl World {
         command: Text,
         out: &mut Tolds,
     ) -> Result<(), NoMemory>
-        requires { host < 10 }
+        requires host { (1 ≤ host) × (host ≤ 9) }
+        requires command { 1 ≤ list_length command }
         ensures world { OnOk result (world_of self.new ≡ (call host context name command (world_of self.old)).world) }
         ensures told { OnOk result (out.new ≡ out.old ++ (call host context name command (world_of self.old)).told) }
     {
@@ -110,7 +109,7 @@ impl World {
         if session.outstanding.is_some() {
             return self.refuse(7, out);
         }
-        if command.bytes().len() > 512 {
+        if command.bytes().len() > MOST_COMMAND {
             return self.refuse(14, out);
         }
         let responded = session.responded;
@@ -140,7 +139,7 @@ impl World {
         name: &Text,
         out: &mut Tolds,
     ) -> Result<(), NoMemory>
-        requires { host < 10 }
+        requires { (1 ≤ host) × (host ≤ 9) }
         ensures world { OnOk result (world_of self.new ≡ (again host context name.now (world_of self.old)).world) }
         ensures told { OnOk result (out.new ≡ out.old ++ (again host context name.now (world_of self.old)).told) }
     {
@@ -200,7 +199,7 @@ impl World {
         name: &Text,
         out: &mut Tolds,
     ) -> Result<(), NoMemory>
-        requires { host < 10 }
+        requires { (1 ≤ host) × (host ≤ 9) }
         ensures world { OnOk result (world_of self.new ≡ (close host context name.now (world_of self.old)).world) }
         ensures told { OnOk result (out.new ≡ out.old ++ (close host context name.now (world_of self.old)).told) }
     {
@@ -242,8 +241,8 @@ impl World {
         proposal: Proposal,
         out: &mut Tolds,
     ) -> Result<(), NoMemory>
-        requires host { host < 10 }
-        requires fit { is_fit proposal ≡ true }
+        requires host { (1 ≤ host) × (host ≤ 9) }
+        requires fit { may_ask proposal ≡ true }
         ensures world { OnOk result (world_of self.new ≡ (proposes host context proposal (world_of self.old)).world) }
         ensures told { OnOk result (out.new ≡ out.old ++ (proposes host context proposal (world_of self.old)).told) }
     {
@@ -279,7 +278,7 @@ impl World {
         query: Text,
         out: &mut Tolds,
     ) -> Result<(), NoMemory>
-        requires { host < 10 }
+        requires { (1 ≤ host) × (host ≤ 9) }
         ensures world { OnOk result (world_of self.new ≡ (reads host context query (world_of self.old)).world) }
         ensures told { OnOk result (out.new ≡ out.old ++ (reads host context query (world_of self.old)).told) }
     {
@@ -304,7 +303,7 @@ impl World {
         query: Text,
         out: &mut Tolds,
     ) -> Result<(), NoMemory>
-        requires { host < 10 }
+        requires { (1 ≤ host) × (host ≤ 9) }
         ensures world { OnOk result (world_of self.new ≡ (read_asked host (next_key (world_of self.old) host) context query (world_of self.old)).world) }
         ensures told { OnOk result (out.new ≡ out.old ++ (read_asked host (next_key (world_of self.old) host) context query (world_of self.old)).told) }
     {

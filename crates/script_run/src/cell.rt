@@ -1,7 +1,8 @@
 ghost use Rattle.std.specs.Prelude.{◌≡◌, ◌++◌, ◌+◌, ◌<◌, ◌≤◌, ◌^◌, [], ◌∷◌, true, IfOk, OnOk, length};
 ghost use Rattle.run_model.specs.Run.{answer_line, answer_told, answered, applied, applied_by, bare, ended, ending_of, given, shows, want_of, without};
 ghost use Rattle.script_run.specs.Cell.{cell_of};
-ghost use Rattle.raft_model.specs.Fit.{are_fit, are_fit_numbers, is_fit};
+ghost use Rattle.raft_model.specs.Fit.{are_fit, is_fit};
+ghost use Rattle.wire_codec.specs.Grammar.{are_fit_numbers};
 
 use crate::contexts::Contexts;
 use crate::requests::Requests;

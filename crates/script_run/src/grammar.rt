@@ -3,7 +3,8 @@ ghost use Rattle.std.specs.Prelude.{◌≡◌, ◌≤◌, ◌-◌, ◌^◌, true
 ghost use Rattle.std.specs.List.{list_all};
 ghost use Rattle.std.specs.Option.{option_map};
 ghost use Rattle.object_model.specs.Words.{word, is_name, number_of};
-ghost use Rattle.script_run.specs.Fit.{is_fit_limit, is_fit_line, is_fit_roster, is_host};
+ghost use Rattle.wire_codec.specs.Grammar.{is_host};
+ghost use Rattle.script_run.specs.Fit.{is_filled, is_fit_limit, is_fit_line, is_fit_roster};
 ghost use Rattle.run_model.specs.Script.{again_line, by_number, ask_line, behind_four, behind_seven, behind_space, call_line, close_line, completed_line, deliver_line, event_by, event_line, event_of, group_by, group_line, host_at, host_line, is_group, is_later, is_named, is_session_verb, is_skipped, is_wire_verb, line_at, line_in, may_read, named_group, positive, raw_by, raw_line, read_line, read_request, register_line, replica_line, roster_of, roster_on, said_in, session_line, setup_after, wire_line, wire_lines};
 
 use host_ids::{Kind, NoMemory, Text};
@@ -182,6 +183,7 @@ fn group_line(alloc: Global, words: &Words<'_>) -> Result<Option<ScriptLine>, No
     }
 }
 
+#[tactic(auto, using(crate::proofs::Fits::filled_command))]
 fn ask_line(
     alloc: Global,
     host: u8,
@@ -295,6 +297,7 @@ fn raw_by(
     responded: Option<u64>,
 ) -> Result<Option<ScriptLine>, NoMemory>
     requires host { is_host host ≡ true }
+    requires filled { is_filled text.now ≡ true }
     requires series_in { IfSome series (λ n. n ≤ 2 ^ 64 - 3) }
     requires responded_in { IfSome responded (λ n. n ≤ 2 ^ 64 - 3) }
     ensures line { IfOk result (λ line. line ≡ raw_by host words.now text.now client series responded) }
@@ -323,6 +326,7 @@ fn raw_by(
     }))
 }
 
+#[tactic(auto, using(crate::proofs::Fits::filled_command))]
 fn raw_line(
     alloc: Global,
     host: u8,
@@ -345,6 +349,7 @@ fn raw_line(
     raw_by(alloc, host, words, text, client, series, responded)
 }
 
+#[tactic(auto, using(crate::proofs::Fits::filled_command))]
 fn call_line(
     alloc: Global,
     host: u8,

@@ -19,8 +19,6 @@ mod print;
 mod requests;
 mod settle;
 mod stream;
-#[cfg(test)]
-mod tests;
 mod top;
 mod turn;
 mod world;

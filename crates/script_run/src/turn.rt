@@ -2,8 +2,8 @@ ghost use Rattle.std.specs.Prelude.{◌≡◌, ◌≤◌, ◌<◌, ◌++◌, tru
 ghost use Rattle.std.specs.List.{list_all};
 ghost use Rattle.run_model.specs.World.{is_declared, new_node, start};
 ghost use Rattle.run_model.specs.Run.{asks, at_replica, declare, event_step, group, grouped, turn};
-ghost use Rattle.script_run.specs.Fit.{is_fit_limit, is_fit_line, is_fit_roster, is_host};
-ghost use Rattle.raft_model.specs.Fit.{is_fit};
+ghost use Rattle.script_run.specs.Fit.{is_ask, is_fit_limit, is_fit_line, is_fit_roster};
+ghost use Rattle.wire_codec.specs.Grammar.{is_host};
 ghost use Rattle.raft_model.specs.Group.{fresh_group};
 ghost use Rattle.raft_model.specs.Saving.{payload};
 ghost use Rattle.script_run.specs.World.{world_of};
@@ -47,8 +47,8 @@ fn payload_len(proposal: &Proposal) -> usize
 /// A group that has just begun, of these voters.
 fn new_lane(alloc: Global, roster: &[u8]) -> Result<Lane, NoMemory>
     requires { is_fit_roster roster.now ≡ true }
-    ensures lane { IfOk result (λ lane. lane ≡ fresh_group 1 roster.now) }
-    ensures hosts { IfOk result (λ lane. list_all is_host lane.voters ≡ true) }
+    ensures lane { IfOk result (λ lane. lane.group ≡ fresh_group 1 roster.now) }
+    ensures hosts { IfOk result (λ lane. list_all is_host lane.group.voters ≡ true) }
 {
     Lane::new(alloc, 1, roster)
 }
@@ -95,8 +95,8 @@ impl World {
 
     /// The group becomes another one.
     fn put_lane(&mut self, lane: Lane)
-        requires { list_all is_host lane.voters ≡ true }
-        ensures { world_of self.new ≡ record (world_of self.old) { group = lane } }
+        requires { list_all is_host lane.group.voters ≡ true }
+        ensures { world_of self.new ≡ record (world_of self.old) { group = lane.group } }
     {
         self.lane = lane;
     }
@@ -157,6 +157,7 @@ impl World {
     }
 
     /// The lines `ask` and `raw`, of a command that is asked as this proposal.
+    #[tactic(auto, using(crate::proofs::Fits::short_ask))]
     fn ask_line(
         &mut self,
         host: u8,
@@ -164,8 +165,8 @@ impl World {
         proposal: Proposal,
         out: &mut Tolds,
     ) -> Result<(), NoMemory>
-        requires host { host < 10 }
-        requires fit { is_fit proposal ≡ true }
+        requires host { (1 ≤ host) × (host ≤ 9) }
+        requires fit { is_ask proposal ≡ true }
         ensures world { OnOk result (world_of self.new ≡ (asks host context (payload proposal) proposal (world_of self.old)).world) }
         ensures told { OnOk result (out.new ≡ out.old ++ (asks host context (payload proposal) proposal (world_of self.old)).told) }
     {

@@ -1,6 +1,6 @@
 ghost use Rattle.std.specs.Prelude.{◌≡◌, true, false, length};
 ghost use Rattle.std.specs.List.{list_all};
-ghost use Rattle.script_run.specs.Fit.{is_host};
+ghost use Rattle.wire_codec.specs.Grammar.{is_host};
 
 use crate::clients::Clients;
 use crate::contexts::Contexts;
@@ -26,5 +26,5 @@ pub struct World {
     pub(crate) appended: u64,
     pub(crate) broken: bool,
     ghost table: { length nodes.items ≡ 10 },
-    ghost hosts: { broken ≡ false → list_all is_host lane.voters ≡ true },
+    ghost hosts: { broken ≡ false → list_all is_host lane.group.voters ≡ true },
 }

@@ -1,12 +1,16 @@
 -- The fronts of a whole run are also those of the part of it after any moment.
-use Rattle.std.proofs.Common.{◌≡◌, ℕ, List, [], ◌∷◌, ◌++◌, refl, sym, ap, ◌∙◌, subst}
+use Rattle.std.proofs.Common.{◌≡◌, true, ℕ, List, [], ◌∷◌, ◌++◌, refl, sym, ap, ◌∙◌, subst}
 use Rattle.std.proofs.lemmas.List.{append_assoc}
+use Rattle.std.proofs.lemmas.Bool.{and_parts, and_from}
 use Rattle.host_ids.specs.declared.entry.Key.{Key}
 use Rattle.raft_model.specs.declared.event.LaneEvent.{LaneEvent}
 use Rattle.raft_model.specs.declared.note.Note.{Note}
+use Rattle.raft_model.specs.Allowed.{is_allowed, are_allowed}
 use Rattle.raft_model.specs.Group.{Group, fresh_group, act, run}
 use Rattle.raft_safety.specs.Events.{AreAllowed}
 use Rattle.raft_safety.specs.ReadFront.{AreFronted, ReadFront, FirstAsk, CoversNow}
+use Rattle.raft_safety.specs.Runs.{HasRun}
+use Rattle.group_world.specs.World.{Kept}
 use Rattle.world_laws.specs.Laws.{FrontsFromHere, AsksFromHere}
 
 -- two lists of events, one after the other, lead where their join leads
@@ -25,7 +29,9 @@ notes_both (e ∷ first) more g = ap (λ ns. (act e g).notes ++ ns) (notes_both 
 allowed_both : (first more : List LaneEvent) (g : Group) → AreAllowed g first → AreAllowed (run first g).group more → AreAllowed g (first ++ more)
 unfolding run
 allowed_both [] more g a b = b
-allowed_both (e ∷ first) more g a b = (a.0, allowed_both first more (act e g).group a.1 b)
+allowed_both (e ∷ first) more g a b =
+    let p = and_parts (is_allowed g e) (are_allowed (act e g).group first) a in
+    and_from (is_allowed g e) (are_allowed (act e g).group (first ++ more)) p.0 (allowed_both first more (act e g).group p.1 b)
 
 -- where all notes have their fronts, the later ones have
 later_fronts : (asks : List (Key × ℕ)) (ns ms : List Note) → AreFronted asks (ns ++ ms) → AreFronted asks ms
@@ -33,8 +39,9 @@ later_fronts asks [] ms f = f
 later_fronts asks (n ∷ ns) ms f = later_fronts asks ns ms f.1
 
 -- the law of fronts over whole runs gives it from any moment of one
-pub fronts_from_here : ReadFront → (here : Group) → FrontsFromHere here
-fronts_from_here law here x more all =
+pub fronts_from_here : ReadFront → (lane : Kept) → (lane.faithful ≡ true → HasRun lane.group) → FrontsFromHere lane
+fronts_from_here law lane runs faithful more all =
+    let x = runs faithful in
     let g = fresh_group x.number x.voters in
     let first = x.events in
     let whole = law x.number x.voters x.some (first ++ more) (allowed_both first more g x.allowed (subst (λ (y : Group). AreAllowed y more) (sym x.is) all)) in
@@ -43,5 +50,7 @@ fronts_from_here law here x more all =
     subst (λ (y : Group). AreFronted (run more y).group.asks (run more y).notes) x.is (later_fronts (run more (run first g).group).group.asks (run first g).notes (run more (run first g).group).notes split)
 
 -- and so does the law of new keys
-pub asks_from_here : FirstAsk → (here : Group) → AsksFromHere here
-asks_from_here law here x = subst CoversNow x.is (law x.number x.voters x.some x.events x.allowed)
+pub asks_from_here : FirstAsk → (lane : Kept) → (lane.faithful ≡ true → HasRun lane.group) → AsksFromHere lane
+asks_from_here law lane runs faithful =
+    let x = runs faithful in
+    subst CoversNow x.is (law x.number x.voters x.some x.events x.allowed)

@@ -13,7 +13,7 @@ use Rattle.raft_model.specs.declared.input.Input.{Input}
 use Rattle.raft_model.specs.declared.input.Input.TheVariants as inputs
 use Rattle.raft_model.specs.declared.state.Pending.{Pending}
 use Rattle.raft_model.specs.Replica.{fresh, ripe, is_changed, is_pending}
-use Rattle.raft_model.specs.Restarting.{restarted}
+use Rattle.raft_model.specs.Restarting.{state_of, restarted}
 use Rattle.raft_model.specs.Saving.{is_stuck}
 use Rattle.raft_model.specs.Step.{step, ready, after_ready, saved}
 use Rattle.raft_model.specs.Group.{Group, Acted, replica_at, saved_at, is_member, is_up, seat, inputs_at, readies, merged}
@@ -35,7 +35,7 @@ module _ {H : Having} (M : Moves H) where
       let x = M.steps (saved_at g h) (seat g h) input (replica_at g h) of (k.hosts h) in
       moves M g h w.replica w.sent k x.0 x.1
 
-  -- Ready: the next batch is taken where none is pending, or nothing changes
+  -- Ready: the next batch is taken where none is pending, or the replica stays
   readies_by : (g : Group) (h : ℕ) → Holds H g → Holds H (readies g h).group
   readies_by g h k =
       let r = replica_at g h in
@@ -44,7 +44,7 @@ module _ {H : Having} (M : Moves H) where
       let none = none_pending r.pending (and_parts (not (is_pending r)) (is_changed r) (and_parts (not (is_pending r) && is_changed r) (not (is_stuck r)) e).0).0 in
       M.readies (saved_at g h) r none (k.hosts h))
       (λ _. k.hosts h) in
-      found_or_not (ready r) _ _ (λ (a : Acted). Holds H a.group) (λ _. k) (λ b _. moves M g h (after_ready r) [] k host (All-nil H.Mail))
+      found_or_not (ready r) _ _ (λ (a : Acted). Holds H a.group) (λ _. moves M g h r [] k (k.hosts h) (All-nil H.Mail)) (λ b _. moves M g h (after_ready r) [] k host (All-nil H.Mail))
 
   -- Saved: what a host has saved is joined with its pending batch
   saves_by_batch : (g : Group) (h : ℕ) (p : Pending) → (replica_at g h).pending ≡ Some p → Holds H g → Holds H (saves_batch g h p).group
@@ -76,7 +76,7 @@ module _ {H : Having} (M : Moves H) where
   restarts_by : (g : Group) (h : ℕ) (d : Durable) → H.Left d → Holds H g → Holds H (restarts g h d).group
   restarts_by g h d left k =
       pick H (not (is_member g h)) _ _ k
-      (pick H (is_up g h) _ _ k (moves_saved M g (slice_set g.up h true) h d.batch (restarted d) [] k (M.restarts d left) (All-nil H.Mail)))
+      (pick H (is_up g h) _ _ k (moves_saved M g (slice_set g.up h true) h (state_of d.batch) (restarted d) [] k (M.restarts d left) (All-nil H.Mail)))
 
   -- every event
   act_by : (e : LaneEvent) (g : Group) → Comes H e → Holds H g → Holds H (act e g).group

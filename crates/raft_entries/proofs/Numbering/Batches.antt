@@ -1,25 +1,26 @@
 -- A batch is numbered when it is taken and when it is joined with what is saved, and so is the log of a replica that starts again.
-use Rattle.std.proofs.Common.{◌≡◌, ◌≤◌, inl, ◌+◌, ◌-◌, ℕ, sym, refl, arith, take, drop, length, subst}
+use Rattle.std.proofs.Common.{◌≡◌, ◌≤◌, inl, ◌+◌, ◌-◌, ℕ, refl, arith, take, drop, length, subst}
 use Rattle.std.proofs.lemmas.List.{length-append, length-take, length-drop}
 use Rattle.std.proofs.lemmas.List.Elements.{All-nil, All-append, All-take, All-drop}
 use Rattle.std.specs.Prelude.{max, Option, Some, None, IfSome}
 use Rattle.host_ids.specs.declared.entry.Entry.{Entry}
 use Rattle.host_ids.specs.declared.entry.Batch.{Batch}
 use Rattle.raft_model.specs.declared.durable.Durable.{Durable}
+use Rattle.raft_model.specs.declared.saved.SavedState.{SavedState}
 use Rattle.raft_model.specs.declared.state.State.{State as Replica}
 use Rattle.raft_model.specs.declared.state.Pending.{Pending}
 use Rattle.log_view.specs.Log.{Log, last}
-use Rattle.raft_model.specs.Restarting.{restarted, begun_log, begun_commit}
+use Rattle.raft_model.specs.Restarting.{state_of, restarted, begun_log, begun_commit}
 use Rattle.raft_model.specs.Saving.{gave_batch, batch_of, unsaved}
 use Rattle.raft_model.specs.Group.{merged}
-use Rattle.raft_entries.specs.Kept.{then_saved, IsState}
+use Rattle.raft_entries.specs.Kept.{then_saved}
 use Rattle.raft_entries.specs.Parts.{parts}
 use Rattle.raft_entries.specs.Numbers.{Numbered, UpTo, IsBatch, IsSaved, IsMail, Reaches, IsPending, IsNumbered}
 use Rattle.raft_entries.proofs.Numbering.Lists.{num_append, num_take, num_drop, up_to}
 use Rattle.raft_entries.proofs.Groups.Moves.{begins_with}
 
 -- a batch takes what changed, and goes on where what is saved reaches to
-pub gives : (b : Batch) (r : Replica) → r.pending ≡ None → IsNumbered b (parts r) → IsNumbered b (parts (gave_batch r))
+pub gives : (b : SavedState) (r : Replica) → r.pending ≡ None → IsNumbered b (parts r) → IsNumbered b (parts (gave_batch r))
 gives b r none k =
     let q = k.1.places in
     let x : Reaches b r.term r.log.front r.from = subst (λ o. Reaches (then_saved b o) r.term r.log.front r.from) none q.reaches in
@@ -41,7 +42,7 @@ gives b r none k =
     )
 
 -- what is saved, joined with a batch that goes on where it reaches to, is numbered
-pub merges : (b p : Batch) → IsSaved b → IsBatch p → Reaches b p.term p.front p.first → IsSaved (merged b p)
+pub merges : (b : SavedState) (p : Batch) → IsSaved b → IsBatch p → Reaches b p.term p.front p.first → IsSaved (merged b p)
 merges b p h k r =
     let m = p.front - b.front in
     let n = p.first - p.front - 1 in
@@ -58,18 +59,12 @@ merges b p h k r =
     }
 
 -- what is saved once nothing is pending is numbered
-pub later_saved : (b : Batch) (o : Option Pending) → IsSaved b → IfSome o (IsPending b) → IsSaved (then_saved b o)
+pub later_saved : (b : SavedState) (o : Option Pending) → IsSaved b → IfSome o (IsPending b) → IsSaved (then_saved b o)
 later_saved b None h k = h
 later_saved b (Some p) h k = merges b p.batch h k.batch k.reaches
 
--- what is saved stays numbered with another number and first index
-pub same_state : (b c : Batch) → IsState b c → IsSaved b → IsSaved c
-same_state b c same h =
-    let other : IsSaved (record b { id = c.id; first = c.first }) = record { entries = h.entries; terms = h.terms; front_committed = h.front_committed; committed = h.committed } in
-    subst IsSaved (sym same) other
-
 -- a log that a replica may start with: it is numbered, and ends where what is saved does, or at its front
-record IsBegun (b : Batch) (commit : ℕ) (l : Log) : Type 0 where
+record IsBegun (b : SavedState) (commit : ℕ) (l : Log) : Type 0 where
   entries : Numbered (l.front + 1) l.entries
   terms : UpTo b.term l.entries
   committed : l.front ≤ commit
@@ -77,10 +72,10 @@ record IsBegun (b : Batch) (commit : ℕ) (l : Log) : Type 0 where
   ends : last l ≤ max l.front (b.front + length b.entries)
 
 -- a replica that starts again is numbered
-pub restarts : (d : Durable) → IsSaved d.batch → begun_commit d ≤ last (begun_log d) → IsNumbered d.batch (parts (restarted d))
+pub restarts : (d : Durable) → IsSaved (state_of d.batch) → begun_commit d ≤ last (begun_log d) → IsNumbered (state_of d.batch) (parts (restarted d))
 restarts d h within =
     let l = begun_log d in
-    let b = d.batch in
+    let b = state_of d.batch in
     let k : IsBegun b (begun_commit d) l = begins_with d (IsBegun b (begun_commit d))
     (λ above. record { entries = tt; terms = All-nil (λ (e : Entry). e.term ≤ b.term); committed = omega arith; front = omega (arith, above); ends = omega arith })
     (record { entries = h.entries; terms = h.terms; committed = omega (arith, h.front_committed); front = omega arith; ends = omega arith }) in

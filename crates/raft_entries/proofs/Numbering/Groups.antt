@@ -5,11 +5,11 @@ use Rattle.std.proofs.lemmas.List.Elements.{All-nil}
 use Rattle.std.specs.Prelude.{⊤, nat_lt, nat_le, min, max, Some, None, IfSome}
 use Rattle.std.specs.List.{All}
 use Rattle.host_ids.specs.declared.entry.Entry.{Entry}
-use Rattle.host_ids.specs.declared.entry.Batch.{Batch}
 use Rattle.raft_model.specs.declared.input.Input.{Input}
+use Rattle.raft_model.specs.declared.saved.SavedState.{SavedState}
 use Rattle.raft_model.specs.declared.state.State.{State as Replica}
 use Rattle.raft_model.specs.declared.state.Pending.{Pending}
-use Rattle.raft_model.specs.Roster.{Seat}
+use Rattle.roster.specs.Roster.{Seat}
 use Rattle.raft_model.specs.Replica.{fresh}
 use Rattle.raft_model.specs.Saving.{batch_last, stabilised, own_vote, own_match, saved_batch}
 use Rattle.raft_model.specs.Step.{step, saved}
@@ -19,22 +19,22 @@ use Rattle.raft_entries.specs.Parts.{Parts, parts}
 use Rattle.raft_entries.specs.Numbers.{Numbered, IsSaved, IsMail, IsPending, Stands, IsNumbered, Numbering}
 use Rattle.raft_entries.proofs.Numbering.Lists.{num_append, num_take, num_drop}
 use Rattle.raft_entries.proofs.Numbering.Words.{settles, holds, numbered_words}
-use Rattle.raft_entries.proofs.Numbering.Batches.{gives, merges, later_saved, same_state, restarts}
+use Rattle.raft_entries.proofs.Numbering.Batches.{gives, merges, later_saved, restarts}
 use Rattle.raft_entries.proofs.Rows.Steps.{step_by, released_by, saves_by}
 use Rattle.raft_entries.proofs.Groups.Moves.{Moves}
 use Rattle.raft_entries.proofs.Groups.Events.{stays_by}
 
 -- a replica stays numbered with each input
-step_numbered : (b : Batch) (s : Seat) (input : Input) (r : Replica) → Given (λ key p. ⊤) IsMail input → IsNumbered b (parts r)
+step_numbered : (b : SavedState) (s : Seat) (input : Input) (r : Replica) → Given (λ key p. ⊤) IsMail input → IsNumbered b (parts r)
     → IsNumbered b (parts (step s input r).replica) × All IsMail (step s input r).sent
 step_numbered b = step_by (numbered_words b (λ o. IfSome o (IsPending b)) (then_saved b)) tt
 
 -- where nothing is pending, what will be saved is what is saved
-idle : (b : Batch) (x : Parts) → x.pending ≡ None → Stands b b x → IsNumbered b x
+idle : (b : SavedState) (x : Parts) → x.pending ≡ None → Stands b b x → IsNumbered b x
 idle b x none k = (subst (λ o. IfSome o (IsPending b)) (sym none) tt, subst (λ o. Stands b (then_saved b o) x) (sym none) k)
 
 -- a replica stays numbered with Saved, over what was pending too
-save_numbered : (b : Batch) (s : Seat) (p : Pending) (r : Replica) → r.pending ≡ Some p → IsSaved b → IsNumbered b (parts r)
+save_numbered : (b : SavedState) (s : Seat) (p : Pending) (r : Replica) → r.pending ≡ Some p → IsSaved b → IsNumbered b (parts r)
     → IsSaved (merged b p.batch) × IsNumbered (merged b p.batch) (parts (saved s p r).replica) × All IsMail (saved s p r).sent
 save_numbered b s p r e h k =
     let c = merged b p.batch in
@@ -77,8 +77,7 @@ moves_numbered = record {
   steps = λ b s input r of k. let x = step_numbered b s input r of k.1 in ((k.0, x.0), x.1);
   readies = λ b r none k. (k.0, gives b r none k.1);
   saves = λ b s p r e k. let x = save_numbered b s p r e k.0 k.1 in ((x.0, x.1), x.2);
-  leaves = λ b r d left k.
-      (⊎_elim (λ e. same_state b d.batch e k.0) (λ e. same_state (then_saved b r.pending) d.batch e (later_saved b r.pending k.0 k.1.0)) left.batch, left.committed);
+  leaves = λ b r d left k. (⊎_elim (λ e. subst IsSaved (sym e) k.0) (λ e. subst IsSaved (sym e) (later_saved b r.pending k.0 k.1.0)) left.batch, left.committed);
   restarts = λ d left. (left.0, restarts d left.0 left.1);
   lists = λ d b r h k. continues d r h k.1.1.entries;
 }

@@ -5,10 +5,10 @@ use Rattle.std.proofs.lemmas.List.{length-append, length-drop}
 use Rattle.std.proofs.lemmas.List.Elements.{All-nil, All-push, All-take, All-drop}
 use Rattle.std.specs.Prelude.{◌==◌, ◌&&◌, not, nat_lt, nat_le, min, max, ⊤, Option, Some, None}
 use Rattle.std.specs.List.{All}
-use Rattle.host_ids.specs.declared.entry.Batch.{Batch}
 use Rattle.host_ids.specs.declared.entry.Entry.{Entry}
 use Rattle.host_ids.specs.declared.entry.Key.{Key}
 use Rattle.host_ids.specs.declared.proposal.Proposal.{Proposal}
+use Rattle.raft_model.specs.declared.saved.SavedState.{SavedState}
 use Rattle.raft_model.specs.declared.state.Pending.{Pending}
 use Rattle.raft_model.specs.declared.role.Role.{Role}
 use Rattle.raft_model.specs.declared.role.Role.TheVariants.{Follower, Candidate, Leader}
@@ -22,7 +22,7 @@ use Rattle.raft_entries.proofs.Numbering.Lists.{num_append, num_take, num_drop, 
 use Rattle.raft_entries.proofs.Numbering.Laying.{Lies, laid_lies}
 use Rattle.raft_entries.proofs.Rows.Words.{Words, lowered_by, laid_by, next_entry, pushed}
 
-module _ {now later : Batch} where
+module _ {now later : SavedState} where
   -- the entries that are sent to a voter follow the index before them
   stretch : (x : Parts) (next : ℕ) → (nat_lt x.log.front next && nat_le next (last x.log + 1)) ≡ true → Stands now later x
       → IsSent x.term (next - 1) (slice x.log next 64)
@@ -110,7 +110,7 @@ module _ {now later : Batch} where
   holds x held o mail k = record { entries = k.entries; terms = k.terms; some_term = k.some_term; places = k.places; held = mail }
 
 -- all words keep it, with whatever is said of the pending batch, which no word changes
-pub numbered_words : (now : Batch) (Waits : Option Pending → Type 0) (later : Option Pending → Batch) → Words (λ key p. ⊤) IsSent (λ x. Waits x.pending × Stands now (later x.pending) x)
+pub numbered_words : (now : SavedState) (Waits : Option Pending → Type 0) (later : Option Pending → SavedState) → Words (λ key p. ⊤) IsSent (λ x. Waits x.pending × Stands now (later x.pending) x)
 numbered_words now Waits later = record {
   stretch = λ x next e k. stretch x next e k.1;
   holds = λ x m mail k. (k.0, holds x (x.held ++ m ∷ []) x.pending (All-push IsMail x.held m k.1.held mail) k.1);

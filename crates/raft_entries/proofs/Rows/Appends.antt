@@ -6,7 +6,7 @@ use Rattle.host_ids.specs.declared.entry.Entry.{Entry}
 use Rattle.wire_codec.specs.declared.envelope.Body.TheVariants as kinds
 use Rattle.raft_model.specs.declared.progress.Appended.TheVariants.{Stored}
 use Rattle.raft_model.specs.declared.state.State.{State as Replica}
-use Rattle.raft_model.specs.Roster.{Seat}
+use Rattle.roster.specs.Roster.{Seat}
 use Rattle.log_view.specs.Log.{last, laid}
 use Rattle.raft_model.specs.Replica.{is_leader, lowered, commit_rule}
 use Rattle.raft_model.specs.Appending.{answers_append, follows, on_append, progress, with_progress, heard, on_append_reply, Took}

@@ -7,7 +7,7 @@ use Rattle.wire_codec.specs.declared.envelope.Body.TheVariants as kinds
 use Rattle.raft_model.specs.declared.role.Role.TheVariants.{Follower, Candidate, Leader}
 use Rattle.raft_model.specs.declared.role.Role.{Role}
 use Rattle.raft_model.specs.declared.state.State.{State as Replica}
-use Rattle.raft_model.specs.Roster.{Seat}
+use Rattle.roster.specs.Roster.{Seat}
 use Rattle.log_view.specs.Log.{last, last_term}
 use Rattle.raft_model.specs.Replica.{is_candidate, sent, no_key, crowned}
 use Rattle.raft_model.specs.Voting.{election, campaigned, on_timeout, grants, voted, on_vote, with_grant, granted_by, on_vote_reply}

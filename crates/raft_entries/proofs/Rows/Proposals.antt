@@ -8,7 +8,7 @@ use Rattle.wire_codec.specs.declared.envelope.Body.TheVariants as kinds
 use Rattle.raft_model.specs.declared.role.Role.TheVariants.{Follower, Candidate, Leader}
 use Rattle.raft_model.specs.declared.role.Role.{Role}
 use Rattle.raft_model.specs.declared.state.State.{State as Replica}
-use Rattle.raft_model.specs.Roster.{Seat}
+use Rattle.roster.specs.Roster.{Seat}
 use Rattle.raft_model.specs.Replica.{is_leader, is_full}
 use Rattle.raft_model.specs.Proposing.{on_propose, on_local_proposal}
 use Rattle.raft_entries.specs.Mail.{Property, Following}

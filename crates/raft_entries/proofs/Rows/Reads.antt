@@ -1,15 +1,16 @@
 -- The rows of beats and reads.
-use Rattle.std.proofs.Common.{ℕ, List, [], ◌∷◌, ◌++◌, arith}
+use Rattle.std.proofs.Common.{ℕ, List, [], ◌∷◌, arith}
 use Rattle.std.specs.Prelude.{◌==◌, min, max}
 use Rattle.host_ids.specs.declared.entry.Key.{Key}
 use Rattle.wire_codec.specs.declared.envelope.Body.TheVariants as kinds
-use Rattle.raft_model.specs.declared.read.OpenRead.{OpenRead}
+use Rattle.read_index.specs.declared.reads.OpenRead.{OpenRead}
 use Rattle.raft_model.specs.declared.state.State.{State as Replica}
-use Rattle.raft_model.specs.Roster.{Seat, at}
+use Rattle.roster.specs.Roster.{Seat, at}
+use Rattle.read_index.specs.Reads.{closed}
 use Rattle.log_view.specs.Log.{last}
 use Rattle.raft_model.specs.Replica.{Row, quiet, is_full, is_leader, sent}
 use Rattle.raft_model.specs.Appending.{follows}
-use Rattle.raft_model.specs.Reading.{on_beat, is_answered, confirmed, confirm, confirms, answers_round, on_beat_reply}
+use Rattle.raft_model.specs.Reading.{on_beat, is_answered, waits_on, confirmed, confirm, confirms, answers_round, on_beat_reply}
 use Rattle.raft_model.specs.Reading.{beats, next_round, on_script_beat, may_read, opened, open_read, on_read_ask, on_ask}
 use Rattle.raft_entries.specs.Mail.{Property, Following}
 use Rattle.raft_entries.specs.Parts.{Parts, parts}
@@ -32,20 +33,20 @@ module _ {Own : Property} {Follows : Following} {G : Parts → Type 0} (W : Word
   confirm_all : (s : Seat) (reads : List OpenRead) (w : Row) → On G w.replica → On G (confirm s reads w).replica
   confirm_all s [] w k = k
   confirm_all s (read ∷ rest) w k =
-      let waits : Row = record w { replica = record w.replica { reads = w.replica.reads ++ read ∷ [] } } in
+      let waits : Row = record w { replica = waits_on read w.replica } in
       pick G (is_answered s w.replica read) _ _ (λ _. confirm_all s rest (confirmed s read w) (confirm_one s read w k)) (λ _. confirm_all s rest waits k)
 
   -- BeatReply: reads are confirmed, and a voter that lacks entries is sent more
   pub beat_reply : (s : Seat) (from t round : ℕ) (r : Replica) → On G r → On G (on_beat_reply s from t round r).replica
   beat_reply s from t round r k =
       let q = answers_round from round r in
-      pick G _ _ _ (λ _. more W s from (confirms s q).replica (confirm_all s q.reads (quiet (record q { reads = [] })) k)) (λ _. k)
+      pick G _ _ _ (λ _. more W s from (confirms s q).replica (confirm_all s q.reads.waiting (quiet (record q { reads = closed q.reads })) k)) (λ _. k)
 
   -- each other voter is sent a beat
   beats_all : (s : Seat) (r : Replica) → On G r → On G (beats s r)
   beats_all s r k =
-      each W s.me (λ v q. sent s v (kinds.Beat (min (at q.matched v) q.commit) q.round) q)
-      (λ v q a. sends W q.term s v (kinds.Beat (min (at q.matched v) q.commit) q.round) q tt a) s.voters r k
+      each W s.me (λ v q. sent s v (kinds.Beat (min (at q.matched v) q.commit) q.reads.round) q)
+      (λ v q a. sends W q.term s v (kinds.Beat (min (at q.matched v) q.commit) q.reads.round) q tt a) s.voters r k
 
   -- the script's beat: a leader sends beats of its next round
   pub script_beat : (s : Seat) (r : Replica) → On G r → On G (on_script_beat s r).replica
@@ -55,7 +56,7 @@ module _ {Own : Property} {Follows : Following} {G : Parts → Type 0} (W : Word
   opens : (s : Seat) (key : Key) (origin : ℕ) (r : Replica) → On G r → On G (open_read s key origin r).replica
   opens s key origin r k =
       let q = beats s (opened key origin (next_round r)) in
-      confirm_all s q.reads (quiet (record q { reads = [] })) (beats_all s (opened key origin (next_round r)) k)
+      confirm_all s q.reads.waiting (quiet (record q { reads = closed q.reads })) (beats_all s (opened key origin (next_round r)) k)
 
   -- ReadAsk: a leader that may read opens the read
   pub read_ask : (s : Seat) (from : ℕ) (key : Key) (r : Replica) → On G r → On G (on_read_ask s from key r).replica

@@ -7,7 +7,7 @@ use Rattle.host_ids.specs.declared.proposal.Proposal.{Proposal}
 use Rattle.wire_codec.specs.declared.envelope.Body.{Body}
 use Rattle.raft_model.specs.declared.role.Role.TheVariants.{Leader}
 use Rattle.raft_model.specs.declared.state.State.{State as Replica}
-use Rattle.raft_model.specs.Roster.{Seat, at}
+use Rattle.roster.specs.Roster.{Seat, at}
 use Rattle.log_view.specs.Log.{last}
 use Rattle.raft_model.specs.Replica.{Row, quiet, is_leader, sent_in, each_other, append_to, appended, appended_to_all, in_term, commit_rule, greatest, may_commit}
 use Rattle.raft_model.specs.Appending.{more_to}

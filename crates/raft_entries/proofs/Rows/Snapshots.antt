@@ -6,7 +6,7 @@ use Rattle.wire_codec.specs.declared.envelope.Body.TheVariants as kinds
 use Rattle.raft_model.specs.declared.chunk.Chunk.{Chunk}
 use Rattle.raft_model.specs.declared.state.Inbox.{Inbox}
 use Rattle.raft_model.specs.declared.state.State.{State as Replica}
-use Rattle.raft_model.specs.Roster.{Seat}
+use Rattle.roster.specs.Roster.{Seat}
 use Rattle.raft_model.specs.Replica.{is_follower, ripe}
 use Rattle.raft_model.specs.Appending.{follows, progress, with_progress, reached}
 use Rattle.raft_model.specs.Snapping.{taken, after_take, on_chunk, on_snap_reply, compacted, based, replied, installed}

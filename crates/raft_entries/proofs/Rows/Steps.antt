@@ -12,7 +12,7 @@ use Rattle.wire_codec.specs.declared.envelope.Body.TheVariants as kinds
 use Rattle.raft_model.specs.declared.input.Input.{Input}
 use Rattle.raft_model.specs.declared.input.Input.TheVariants as inputs
 use Rattle.raft_model.specs.declared.state.State.{State as Replica}
-use Rattle.raft_model.specs.Roster.{Seat}
+use Rattle.roster.specs.Roster.{Seat}
 use Rattle.raft_model.specs.Replica.{Row, is_candidate, no_key, in_term}
 use Rattle.raft_model.specs.Saving.{own_vote, own_match, stabilised}
 use Rattle.raft_model.specs.Step.{Step, on_body, row, released, step}

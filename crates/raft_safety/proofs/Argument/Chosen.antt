@@ -1,7 +1,7 @@
 -- What a majority has answered is in the log of every later term.
 use Rattle.std.proofs.lemmas.Bool.{leb-true}
 use Rattle.std.proofs.Common.{◌≡◌, ⊎_elim, ℕ, ◌<◌, List, [], ◌∷◌, true, refl, sym, subst, arith, inl, inr}
-use Rattle.raft_model.specs.Roster.{is_majority}
+use Rattle.roster.specs.Roster.{is_majority}
 use Rattle.raft_safety.specs.History.{Reign, History, IsLed, Agree, has_answered, IsSafe, IsChosen}
 use Rattle.raft_safety.specs.Invariant.{LaterKeep, IsLevel}
 use Rattle.raft_safety.proofs.Argument.Quorums.{in_both}

@@ -2,7 +2,7 @@
 use Rattle.std.proofs.Common.{Bool, ◌≡◌, ◌≢◌, ⊎_elim, ℕ, zero, suc, ◌<◌, ◌≤◌, List, length, true, false, sym, ◌∙◌, subst, arith}
 use Rattle.std.proofs.lemmas.Bool.{cases_order, leb-true}
 use Rattle.host_ids.specs.declared.entry.Entry.{Entry}
-use Rattle.raft_model.specs.Roster.{is_set, is_majority}
+use Rattle.roster.specs.Roster.{is_set, is_majority}
 use Rattle.raft_model.specs.Group.{term_of}
 use Rattle.raft_safety.specs.History.{Reign, History, IsLed, Agree, has_answered, IsSafe, IsStrict, Counts}
 use Rattle.raft_safety.specs.Replicas.{IsCampaigning}

@@ -2,7 +2,7 @@
 use Rattle.std.proofs.lemmas.Bool.{and_parts}
 use Rattle.std.proofs.Common.{◌≡◌, ℕ, ◌+◌, ◌*◌, ◌<◌, ◌≤◌, List, [], ◌∷◌, length, Bool, true, false, ◌&&◌, if◌then◌else◌, refl, arith, inl, inr, ⊎_elim, ◌⊎◌}
 use Rattle.std.proofs.lemmas.Bool.Decides.{nat_tests}
-use Rattle.raft_model.specs.Roster.{count, is_majority}
+use Rattle.roster.specs.Roster.{count, is_majority}
 
 -- of two tests over a list, the counts of those that pass each are at most its length and the count of those that pass both
 both : (p q : ℕ → Bool) (xs : List ℕ) → count p xs + count q xs ≤ length xs + count (λ x. p x && q x) xs

@@ -3,7 +3,7 @@ use Rattle.std.proofs.Common.{◌≡◌, ◌≢◌, ⊎_elim, ℕ, ◌+◌, ◌-
 use Rattle.std.specs.Prelude.{nat_lt}
 use Rattle.std.proofs.lemmas.Bool.{cases_eq, cases_order, eq-eqb, ne_eqb, lt-ltb, le-ltb}
 use Rattle.host_ids.specs.declared.entry.Entry.{Entry}
-use Rattle.host_ids.specs.declared.entry.Batch.{Batch}
+use Rattle.raft_model.specs.declared.saved.SavedState.{SavedState}
 use Rattle.wire_codec.specs.declared.envelope.Envelope.{Envelope}
 use Rattle.wire_codec.specs.declared.envelope.Body.{Body}
 use Rattle.wire_codec.specs.declared.envelope.Body.TheVariants as kinds
@@ -46,7 +46,7 @@ votes_below term vote votes t m =
     ∙ ap (λ x. if x then vote else votes t) (ne_eqb t term (λ e. omega (arith, e, m)))
 
 -- the replica that starts from what it has saved alone
-abbrev pub left_replica : Batch → Replica
+abbrev pub left_replica : SavedState → Replica
 left_replica b = record fresh {
   term = b.term;
   vote = b.vote;
@@ -57,18 +57,10 @@ left_replica b = record fresh {
   taken = record { term = b.term; vote = b.vote; commit = b.commit; front = b.front };
 }
 
--- the same saved state, with another batch number and first index
-abbrev pub numbered : Batch → ℕ → ℕ → Batch
-numbered b id first = record b { id = id; first = first }
-
-module _ {g : Group} {v : ℕ} {h : History} {b : Batch} {r : Replica} {d : List Entry} {w : List Envelope} (o : Open h g v b r d w) (id first : ℕ) where
+module _ {g : Group} {v : ℕ} {h : History} {b : SavedState} {r : Replica} {d : List Entry} {w : List Envelope} (o : Open h g v b r d w) where
   -- the history after the crash: what the host told and voted without saving is forgotten
   abbrev pub crashed : History
   crashed = record h { vote = at_host v (left_votes b.term b.vote (h.vote v)) h.vote; told = at_host v (h.answer v) h.told; saving = at_host v (h.answer v) h.saving }
-
-  -- the saved state that the host starts from
-  abbrev c : Batch
-  c = numbered b id first
 
   -- the replica that starts
   abbrev q : Replica
@@ -213,7 +205,7 @@ module _ {g : Group} {v : ℕ} {h : History} {b : Batch} {r : Replica} {d : List
   tells from to t (kinds.ReadAnswer key n) e x = tt
 
   -- a host crashes, and stands as its saved state does
-  pub crash_step : Open k g v c q d w
+  pub crash_step : Open k g v b q d w
   crash_step =
       let same : IsSavedTo (last (log_of b)) (of_batch d b) (of_replica d q) = all_saved in
       frame o (record {

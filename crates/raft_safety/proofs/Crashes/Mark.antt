@@ -2,7 +2,7 @@
 use Rattle.std.proofs.Common.{◌≡◌, ⊎_elim, ℕ, ◌+◌, ◌-◌, ◌<◌, ◌≤◌, List, [], length, take, drop, min, refl, sym, ◌∙◌, subst, arith, inr}
 use Rattle.std.proofs.lemmas.List.{take-append-le, take-take, length-take-le}
 use Rattle.host_ids.specs.declared.entry.Entry.{Entry}
-use Rattle.host_ids.specs.declared.entry.Batch.{Batch}
+use Rattle.raft_model.specs.declared.saved.SavedState.{SavedState}
 use Rattle.wire_codec.specs.declared.envelope.Envelope.{Envelope}
 use Rattle.log_view.specs.Log.{last, reset}
 use Rattle.raft_model.specs.declared.state.State.{State as Replica}
@@ -18,10 +18,10 @@ use Rattle.raft_safety.proofs.Frame.Words.{Outlives, replica_step}
 use Rattle.raft_safety.proofs.Crashes.Crash.{left_replica}
 
 -- the replica that starts at its mark, with no entries after it
-abbrev pub marked_replica : Batch → ℕ → ℕ → Replica
+abbrev pub marked_replica : SavedState → ℕ → ℕ → Replica
 marked_replica c s t = record (left_replica c) { log = reset s t; commit = s; stable = last (reset s t); from = last (reset s t) + 1 }
 
-module _ {g : Group} {v : ℕ} {h : History} {c : Batch} {d : List Entry} {w : List Envelope} (o : Open h g v c (left_replica c) d w) (s t : ℕ) (above : c.front < s) (within : s ≤ length d)
+module _ {g : Group} {v : ℕ} {h : History} {c : SavedState} {d : List Entry} {w : List Envelope} (o : Open h g v c (left_replica c) d w) (s t : ℕ) (above : c.front < s) (within : s ≤ length d)
     (term : t ≡ term_of d s) (commits : c.commit ≤ s)
     (apart : s ≤ length (whole d c.front c.entries) → term_of (whole d c.front c.entries) s ≡ term_of d s → ⊥) where
   -- the replica that starts there

@@ -5,6 +5,7 @@ use Rattle.std.proofs.lemmas.Bool.{ltb-true, leb-true, le-leb, le-ltb, lt-ltb, e
 use Rattle.std.proofs.lemmas.List.{append-nil, length-set, set_past}
 use Rattle.host_ids.specs.declared.entry.Entry.{Entry}
 use Rattle.host_ids.specs.declared.entry.Batch.{Batch}
+use Rattle.raft_model.specs.declared.saved.SavedState.{SavedState}
 use Rattle.wire_codec.specs.declared.envelope.Envelope.{Envelope}
 use Rattle.log_view.specs.Log.{Log, last, term_at, reset}
 use Rattle.raft_model.specs.Snapping.{stays}
@@ -12,12 +13,12 @@ use Rattle.raft_model.specs.declared.durable.Durable.{Durable}
 use Rattle.raft_model.specs.declared.event.LaneFault.TheVariants as faults
 use Rattle.raft_model.specs.declared.state.State.{State as Replica}
 use Rattle.raft_model.specs.Replica.{fresh}
-use Rattle.raft_model.specs.Restarting.{log_of, begun_log, begun_commit, restarted, beginning}
-use Rattle.raft_model.specs.Group.{Group, Acted, saved_at, is_member, is_up, moved, continued, did, refuses, restarts, term_of}
+use Rattle.raft_model.specs.Restarting.{state_of, log_of, begun_log, begun_commit, restarted, beginning}
+use Rattle.raft_model.specs.Group.{Group, Acted, replica_at, saved_at, is_member, is_up, moved, continued, did, refuses, restarts, term_of}
 use Rattle.raft_safety.specs.History.{History, Agree, SameFrom, MatchesWithin}
 use Rattle.raft_safety.specs.Replicas.{whole}
-use Rattle.raft_safety.specs.Invariant.{Common, Kept}
-use Rattle.raft_safety.specs.Events.{IsAllowedStart}
+use Rattle.raft_safety.specs.Invariant.{Common, HasAnswer, IsHost, Secured, Kept}
+use Rattle.raft_safety.specs.Events.{IsLeft, IsAllowedStart}
 use Rattle.raft_safety.proofs.Argument.Agreement.{agree_sym, agree_less, glue, le_or}
 use Rattle.raft_safety.proofs.Argument.Stretches.{from_trans, from_agree}
 use Rattle.raft_safety.proofs.Frame.Words.{commit_step}
@@ -69,8 +70,8 @@ module _ {g : Group} (v : ℕ) (s : Durable) (k : Kept g) (some : v ≢ 0) (allo
   turned = turned_kept v true k
 
   -- the saved state
-  abbrev c : Batch
-  c = s.batch
+  abbrev c : SavedState
+  c = state_of s.batch
 
   -- the replica stands as that does
   stands : Begun up v c g.decided g.wire
@@ -185,7 +186,7 @@ module _ {g : Group} (v : ℕ) (s : Durable) (k : Kept g) (some : v ≢ 0) (allo
   list_same = continued_none g.decided q open_started.mine.stands.now.commit.right
 
   -- the group with the host up, and its replica and what it has saved put in
-  abbrev put : List Batch → List Replica → List Entry → List Envelope → Group
+  abbrev put : List SavedState → List Replica → List Entry → List Envelope → Group
   put saves replicas d w = record up { saves = saves; replicas = replicas; decided = d; wire = w }
 
   -- the group with the host started keeps the invariant
@@ -212,10 +213,10 @@ pub restart_kept : {g : Group} (v : ℕ) (s : Durable) → Kept g → IsAllowedS
 restart_kept {g} v s k allowed =
     elim (is_member g v) as (λ x. is_member g v ≡ x → Kept
     (let b : Acted = if not x then refuses g faults.NotMember else
-    (if is_up g v then refuses g faults.IsUp else did (moved (record (record g { up = slice_set g.up v true }) { saves = slice_set g.saves v s.batch }) v (restarted s) []) []) in b).group) [
+    (if is_up g v then refuses g faults.IsUp else did (moved (record (record g { up = slice_set g.up v true }) { saves = slice_set g.saves v (state_of s.batch) }) v (restarted s) []) []) in b).group) [
       | false ↦ λ e. k
       | true ↦ λ e. elim (is_up g v) as (λ x. Kept
-          (let b : Acted = if x then refuses g faults.IsUp else did (moved (record (record g { up = slice_set g.up v true }) { saves = slice_set g.saves v s.batch }) v (restarted s) [])
+          (let b : Acted = if x then refuses g faults.IsUp else did (moved (record (record g { up = slice_set g.up v true }) { saves = slice_set g.saves v (state_of s.batch) }) v (restarted s) [])
           [] in b).group) [
             | true ↦ k
             | false ↦ started v s k
@@ -224,22 +225,26 @@ restart_kept {g} v s k allowed =
           ]
     ] refl
 
--- a host without a mark, whose machine keeps nothing, may start from what it has saved
-pub plain_start : {g : Group} (v : ℕ) → Kept g → (saved_at g v).term < 2 ^ 62 → last (log_of (saved_at g v)) < 2 ^ 62 → (saved_at g v).front ≡ 0
-    → IsAllowedStart g v (record { batch = saved_at g v; mark = 0; mark_term = 0; machine = 0 })
-plain_start {g} v k term most front =
-    let b = saved_at g v in
-    let a = k.holds.hosts v in
+-- a host without a mark, whose machine keeps nothing, may start from what it has saved, whatever number and first index it is told with
+pub plain_start : {g : Group} (v : ℕ) (x : Batch) → state_of x ≡ saved_at g v → Kept g → (saved_at g v).term < 2 ^ 62 → last (log_of (saved_at g v)) < 2 ^ 62 → (saved_at g v).front ≡ 0
+    → IsAllowedStart g v (record { batch = x; mark = 0; mark_term = 0; machine = 0 })
+plain_start {g} v x same k term most front =
+    let b = state_of x in
+    let a : IsHost k.history g.decided (Secured g) (HasAnswer g.wire) v b (replica_at g v) =
+    subst (λ y. IsHost k.history g.decided (Secured g) (HasAnswer g.wire) v y (replica_at g v)) (sym same) (k.holds.hosts v) in
+    let low : b.term < 2 ^ 62 = subst (λ (y : SavedState). y.term < 2 ^ 62) (sym same) term in
+    let short : last (log_of b) < 2 ^ 62 = subst (λ y. last (log_of y) < 2 ^ 62) (sym same) most in
+    let none : b.front ≡ 0 = subst (λ (y : SavedState). y.front ≡ 0) (sym same) front in
     let n = a.stands.saved in
-    let s : Durable = record { batch = b; mark = 0; mark_term = 0; machine = 0 } in
+    let s : Durable = record { batch = x; mark = 0; mark_term = 0; machine = 0 } in
     let size = whole_length g.decided b.front b.entries (omega (arith, n.front, n.commit.right)) in
     let held : begun_log s ≡ log_of b = ap (λ x. if x && not (stays (log_of b) 0 0) then reset 0 0 else log_of b) (le-ltb b.front 0 (omega arith)) in
     record {
-      left = inl refl;
+      left = subst (IsLeft g v) (sym same) (inl refl);
       mark = refl;
       machine = omega arith;
-      begins = subst (λ l. term_at l 0 ≡ 0) (sym held) (term_whole g.decided (log_of b) 0 (omega (arith, n.front, n.commit.right)) a.based.0 (omega (arith, front)));
+      begins = subst (λ l. term_at l 0 ≡ 0) (sym held) (term_whole g.decided (log_of b) 0 (omega (arith, n.front, n.commit.right)) a.based.0 (omega (arith, none)));
       fit = subst (λ l. (nat_le l.front 0 && nat_le 0 (last l) && nat_le (begun_commit s) (last l) && nat_lt b.term (2 ^ 62) && nat_lt (last l) (2 ^ 62)) ≡ true) (sym held)
-          (and_from _ _ (and_from _ _ (and_from _ _ (and_from _ _ (le-leb b.front 0 (omega (arith, front))) (le-leb 0 (last (log_of b)) (omega arith)))
-          (le-leb (begun_commit s) (last (log_of b)) (omega (arith, size, n.commit.left)))) (lt-ltb b.term (2 ^ 62) term)) (lt-ltb (last (log_of b)) (2 ^ 62) most));
+          (and_from _ _ (and_from _ _ (and_from _ _ (and_from _ _ (le-leb b.front 0 (omega (arith, none))) (le-leb 0 (last (log_of b)) (omega arith)))
+          (le-leb (begun_commit s) (last (log_of b)) (omega (arith, size, n.commit.left)))) (lt-ltb b.term (2 ^ 62) low)) (lt-ltb (last (log_of b)) (2 ^ 62) short));
     }

@@ -2,7 +2,7 @@
 use Rattle.std.proofs.Common.{◌≡◌, ◌≢◌, ◌⊎◌, ⊎_elim, ℕ, zero, suc, ◌+◌, ◌<◌, ◌≤◌, List, length, refl, sym, ◌∙◌, subst, arith, inl, inr}
 use Rattle.std.proofs.lemmas.Bool.{cases_eq}
 use Rattle.host_ids.specs.declared.entry.Entry.{Entry}
-use Rattle.host_ids.specs.declared.entry.Batch.{Batch}
+use Rattle.raft_model.specs.declared.saved.SavedState.{SavedState}
 use Rattle.wire_codec.specs.declared.envelope.Envelope.{Envelope}
 use Rattle.raft_model.specs.declared.state.State.{State as Replica}
 use Rattle.raft_model.specs.Group.{Group, term_of}
@@ -18,7 +18,7 @@ use Rattle.raft_safety.proofs.Frame.Reigns.{later_grown, aligned_same}
 use Rattle.raft_safety.proofs.Argument.Agreement.{term_agree, le_or}
 use Rattle.raft_safety.proofs.Frame.Tables.{at_pair, IsPair, at_there, at_elsewhere, pair_cases}
 
-module _ {g : Group} {v : ℕ} {h : History} {b : Batch} {r : Replica} {d : List Entry} {w : List Envelope} (t : ℕ) (above : r.term < t) (some : v ≢ 0) (o : Open h g v b r d w) where
+module _ {g : Group} {v : ℕ} {h : History} {b : SavedState} {r : Replica} {d : List Entry} {w : List Envelope} (t : ℕ) (above : r.term < t) (some : v ≢ 0) (o : Open h g v b r d w) where
   -- which saved states secure which votes, from what the host has saved
   abbrev S : ℕ → ℕ → ℕ → Type 0
   S = SecuredBut g v b

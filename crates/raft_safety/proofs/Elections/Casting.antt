@@ -1,7 +1,7 @@
 -- A host votes in its term.
 use Rattle.std.proofs.Common.{◌≡◌, ◌≢◌, ⊎_elim, ℕ, ◌≤◌, List, [], ◌∷◌, refl, sym, ap, ◌∙◌, subst, arith, inl, inr}
 use Rattle.host_ids.specs.declared.entry.Entry.{Entry}
-use Rattle.host_ids.specs.declared.entry.Batch.{Batch}
+use Rattle.raft_model.specs.declared.saved.SavedState.{SavedState}
 use Rattle.wire_codec.specs.declared.envelope.Envelope.{Envelope}
 use Rattle.wire_codec.specs.declared.envelope.Body.{Body}
 use Rattle.wire_codec.specs.declared.envelope.Body.TheVariants as kinds
@@ -51,7 +51,7 @@ all_voted h d Ans level v [] x c free q = tt
 all_voted h d Ans level v (m ∷ ms) x c free q = (q.0, tells_voted h d Ans level v m.to m.term m.body x c free q.1, all_voted h d Ans level v ms x c free q.2)
 
 -- a host that has voted for nobody in its term votes for a campaign that holds what it holds
-module _ {g : Group} {v : ℕ} {h : History} {b : Batch} {r : Replica} {d : List Entry} {w : List Envelope} (c : ℕ) (some : c ≢ 0) (free : r.vote ≡ 0) (o : Open h g v b r d w) where
+module _ {g : Group} {v : ℕ} {h : History} {b : SavedState} {r : Replica} {d : List Entry} {w : List Envelope} (c : ℕ) (some : c ≢ 0) (free : r.vote ≡ 0) (o : Open h g v b r d w) where
   -- the history with this vote
   abbrev pub casting : History
   casting = record h { vote = at_pair v r.term c h.vote }

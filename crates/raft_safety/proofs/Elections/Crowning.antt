@@ -5,11 +5,11 @@ use Rattle.std.proofs.lemmas.Bool.{cases_lt}
 use Rattle.std.proofs.lemmas.List.{get_or-set_other, get_or-set_same, get_or_past, length-set}
 use Rattle.raft_safety.proofs.Argument.WholeLogs.{whole_length, saved_within}
 use Rattle.host_ids.specs.declared.entry.Entry.{Entry}
-use Rattle.host_ids.specs.declared.entry.Batch.{Batch}
+use Rattle.raft_model.specs.declared.saved.SavedState.{SavedState}
 use Rattle.wire_codec.specs.declared.envelope.Envelope.{Envelope}
 use Rattle.raft_model.specs.declared.role.Role.TheVariants.{Candidate}
 use Rattle.raft_model.specs.declared.state.State.{State as Replica}
-use Rattle.raft_model.specs.Roster.{at, all_at, is_set, is_majority}
+use Rattle.roster.specs.Roster.{at, all_at, is_set, is_majority}
 use Rattle.raft_model.specs.Group.{Group, seat, term_of}
 use Rattle.raft_model.specs.Replica.{crowned}
 use Rattle.raft_safety.specs.History.{Reign, History, IsLed, Agree, IsOwn, IsSafe, IsStrict, Counts, Keeps}
@@ -26,7 +26,7 @@ use Rattle.raft_safety.proofs.Frame.Reigns.{later_grown, aligned_same, next_orde
 use Rattle.raft_safety.proofs.Argument.Agreement.{term_agree, le_or}
 use Rattle.raft_safety.proofs.Frame.Tables.{at_pair, at_there, at_elsewhere, pair_cases, none_matched}
 
-module _ {g : Group} {v : ℕ} {h : History} {b : Batch} {r : Replica} {d : List Entry} {w : List Envelope} (role : r.role ≡ Candidate) (majority : is_majority g.voters (is_set r.granted) ≡ true)
+module _ {g : Group} {v : ℕ} {h : History} {b : SavedState} {r : Replica} {d : List Entry} {w : List Envelope} (role : r.role ≡ Candidate) (majority : is_majority g.voters (is_set r.granted) ≡ true)
     (o : Open h g v b r d w) where
   -- which saved states secure which votes, from what the host has saved
   abbrev S : ℕ → ℕ → ℕ → Type 0

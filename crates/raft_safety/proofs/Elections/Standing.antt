@@ -1,12 +1,12 @@
 -- A candidate stands for election with no vote counted, and asks each other voter for its vote.
 use Rattle.std.proofs.Common.{◌≡◌, ◌≢◌, ℕ, ◌≤◌, List, length, refl, sym, ap, ◌∙◌, arith, inr}
 use Rattle.host_ids.specs.declared.entry.Entry.{Entry}
-use Rattle.host_ids.specs.declared.entry.Batch.{Batch}
+use Rattle.raft_model.specs.declared.saved.SavedState.{SavedState}
 use Rattle.wire_codec.specs.declared.envelope.Envelope.{Envelope}
 use Rattle.wire_codec.specs.declared.envelope.Body.TheVariants as kinds
 use Rattle.raft_model.specs.declared.role.Role.TheVariants.{Candidate}
 use Rattle.raft_model.specs.declared.state.State.{State as Replica}
-use Rattle.raft_model.specs.Roster.{none_set}
+use Rattle.roster.specs.Roster.{none_set}
 use Rattle.raft_model.specs.Group.{Group, seat, term_of}
 use Rattle.raft_model.specs.Replica.{sent}
 use Rattle.raft_model.specs.Voting.{asked_votes}
@@ -19,7 +19,7 @@ use Rattle.raft_safety.proofs.Frame.Opened.{SecuredBut, Open}
 use Rattle.raft_safety.proofs.Frame.Words.{holding, each_other_stays, rest, rest_step}
 use Rattle.raft_safety.proofs.Frame.Tables.{none_is_set}
 
-module _ {g : Group} {v : ℕ} {h : History} {b : Batch} {d : List Entry} {w : List Envelope} where
+module _ {g : Group} {v : ℕ} {h : History} {b : SavedState} {d : List Entry} {w : List Envelope} where
   -- who voted for itself with the log of its campaign stands for election, with no vote counted
   pub stand_step : {r : Replica} → v ≢ 0 → r.vote ≡ v → h.vote v r.term ≡ v → h.campaign r.term v ≡ whole d r.log.front r.log.entries
       → ((R : Reign) → IsLed h.reigns R → R.term ≡ r.term → R.leader ≢ v) → Open h g v b r d w → Open h g v b (record r { role = Candidate; leader = 0; granted = none_set }) d w

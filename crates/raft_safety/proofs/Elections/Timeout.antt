@@ -1,11 +1,11 @@
 -- The row of Timeout: a candidate votes for itself and asks for votes with the log of its campaign.
 use Rattle.std.proofs.Common.{◌≡◌, ◌≢◌, ℕ, ◌+◌, ◌<◌, List, length, refl, sym, ◌∙◌, subst, arith, ◌||◌}
 use Rattle.host_ids.specs.declared.entry.Entry.{Entry}
-use Rattle.host_ids.specs.declared.entry.Batch.{Batch}
+use Rattle.raft_model.specs.declared.saved.SavedState.{SavedState}
 use Rattle.wire_codec.specs.declared.envelope.Envelope.{Envelope}
 use Rattle.raft_model.specs.declared.role.Role.TheVariants.{Follower}
 use Rattle.raft_model.specs.declared.state.State.{State as Replica}
-use Rattle.raft_model.specs.Roster.{none_set}
+use Rattle.roster.specs.Roster.{none_set}
 use Rattle.raft_model.specs.Group.{Group, seat}
 use Rattle.raft_model.specs.Replica.{is_full, is_leader}
 use Rattle.raft_model.specs.Voting.{campaigned, asked_votes}
@@ -23,7 +23,7 @@ use Rattle.raft_safety.proofs.Elections.Campaigns.{campaigning, campaign_step, n
 use Rattle.raft_safety.proofs.Frame.Tables.{at_there}
 
 -- the term rises by one, with a vote for itself
-module _ {g : Group} {v : ℕ} {h : History} {b : Batch} {r : Replica} {d : List Entry} {w : List Envelope} (some : v ≢ 0) (o : Open h g v b r d w) where
+module _ {g : Group} {v : ℕ} {h : History} {b : SavedState} {r : Replica} {d : List Entry} {w : List Envelope} (some : v ≢ 0) (o : Open h g v b r d w) where
   -- the term that is entered
   abbrev t : ℕ
   t = r.term + 1

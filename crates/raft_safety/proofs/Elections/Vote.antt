@@ -2,7 +2,7 @@
 use Rattle.std.proofs.lemmas.Bool.{cases_Bool}
 use Rattle.std.proofs.Common.{◌≡◌, ◌⊎◌, ⊎_elim, ℕ, ◌<◌, ◌≤◌, List, length, true, false, refl, sym, ap, ◌∙◌, subst, arith, inl, inr, Bool}
 use Rattle.host_ids.specs.declared.entry.Entry.{Entry}
-use Rattle.host_ids.specs.declared.entry.Batch.{Batch}
+use Rattle.raft_model.specs.declared.saved.SavedState.{SavedState}
 use Rattle.wire_codec.specs.declared.envelope.Envelope.{Envelope}
 use Rattle.wire_codec.specs.declared.envelope.Body.TheVariants as kinds
 use Rattle.raft_model.specs.declared.state.State.{State as Replica}
@@ -24,12 +24,12 @@ use Rattle.raft_safety.proofs.Argument.WholeLogs.{whole_length, last_term_whole}
 use Rattle.raft_safety.proofs.Frame.Tables.{at_there}
 
 -- a vote of the host is recorded
-pub record Voted (g : Group) (v : ℕ) (b : Batch) (r : Replica) (d : List Entry) (w : List Envelope) (c : ℕ) : Type 0 where
+pub record Voted (g : Group) (v : ℕ) (b : SavedState) (r : Replica) (d : List Entry) (w : List Envelope) (c : ℕ) : Type 0 where
   pub history : History
   pub holds : Open history g v b (record r { vote = c }) d w
   pub vote : history.vote v r.term ≡ c
 
-module _ {g : Group} {v : ℕ} {h : History} {b : Batch} {r : Replica} {d : List Entry} {w : List Envelope} (o : Open h g v b r d w)
+module _ {g : Group} {v : ℕ} {h : History} {b : SavedState} {r : Replica} {d : List Entry} {w : List Envelope} (o : Open h g v b r d w)
     {from t l lt : ℕ} {x : Stage} (campaign : IsCampaign h from t l lt x) (secured : (s c : ℕ) → IsSecured x.term x.vote s c → SecuredBut g v b from s c)
     (grant : IsGranting (election r) from t l lt) where
   -- the host's whole log: the decided places up to its front, then its entries

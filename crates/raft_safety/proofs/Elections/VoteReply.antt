@@ -6,11 +6,12 @@ use Rattle.std.proofs.lemmas.Bool.{and_parts, eqb-true, cases_eq}
 use Rattle.std.proofs.lemmas.List.{get_or-set_other}
 use Rattle.host_ids.specs.declared.entry.Entry.{Entry}
 use Rattle.host_ids.specs.declared.entry.Batch.{Batch}
+use Rattle.raft_model.specs.declared.saved.SavedState.{SavedState}
 use Rattle.host_ids.specs.declared.proposal.Proposal.TheVariants as proposals
 use Rattle.wire_codec.specs.declared.envelope.Envelope.{Envelope}
 use Rattle.raft_model.specs.declared.role.Role.TheVariants.{Candidate}
 use Rattle.raft_model.specs.declared.state.State.{State as Replica}
-use Rattle.raft_model.specs.Roster.{is_set, is_majority}
+use Rattle.roster.specs.Roster.{is_set, is_majority}
 use Rattle.raft_model.specs.Group.{Group, seat}
 use Rattle.raft_model.specs.Replica.{Row, is_candidate, in_term, no_key, crowned, lead}
 use Rattle.raft_model.specs.Voting.{election, counts, granted_by}
@@ -28,13 +29,13 @@ use Rattle.raft_safety.proofs.Frame.Roles.{stands_for}
 use Rattle.raft_safety.proofs.Frame.Words.{rest, rest_step}
 
 -- some history fits, in which nothing more is saved
-pub record Fits (h : History) (g : Group) (v : ℕ) (b : Batch) (r : Replica) (d : List Entry) (w : List Envelope) : Type 0 where
+pub record Fits (h : History) (g : Group) (v : ℕ) (b : SavedState) (r : Replica) (d : List Entry) (w : List Envelope) : Type 0 where
   pub history : History
   pub holds : Open history g v b r d w
   pub saving : (u t : ℕ) → history.saving u t ≡ h.saving u t
   pub answer : (u t : ℕ) → history.answer u t ≡ h.answer u t
 
-module _ {g : Group} {v : ℕ} {h : History} {b : Batch} {d : List Entry} {w : List Envelope} where
+module _ {g : Group} {v : ℕ} {h : History} {b : SavedState} {d : List Entry} {w : List Envelope} where
   -- a candidate with a majority leads: it appends a blank entry and sends it
   pub lead_step : {r : Replica} → r.role ≡ Candidate → is_majority g.voters (is_set r.granted) ≡ true → Open h g v b r d w → Fits h g v b (lead (seat g v) r).replica d w
   lead_step {r} role majority o =

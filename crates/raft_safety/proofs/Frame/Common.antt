@@ -2,7 +2,7 @@
 use Rattle.std.proofs.Common.{◌≡◌, ◌≢◌, ◌⊎◌, ⊎_elim, ℕ, ◌<◌, ◌≤◌, List, length, true, refl, sym, ap, ◌∙◌, subst, arith, inl, inr}
 use Rattle.std.proofs.lemmas.Bool.{cases_eq}
 use Rattle.host_ids.specs.declared.entry.Entry.{Entry}
-use Rattle.raft_model.specs.Roster.{is_majority}
+use Rattle.roster.specs.Roster.{is_majority}
 use Rattle.raft_model.specs.Group.{term_of}
 use Rattle.raft_safety.specs.History.{Reign, History, IsLed, Agree, IsChosen}
 use Rattle.raft_safety.specs.Invariant.{Common, IsReign, LaterKeep, IsDecided, IsVote, IsLost, IsBounded, IsLevel}

@@ -2,12 +2,12 @@
 use Rattle.std.proofs.Common.{◌≡◌, ◌≢◌, ⊎_elim, ℕ, ◌+◌, ◌-◌, ◌≤◌, List, [], ◌∷◌, ◌++◌, length, take, drop, refl, sym, ap, ◌∙◌, subst, arith, inl, inr}
 use Rattle.std.proofs.lemmas.List.{drop-take}
 use Rattle.host_ids.specs.declared.entry.Entry.{Entry}
-use Rattle.host_ids.specs.declared.entry.Batch.{Batch}
+use Rattle.raft_model.specs.declared.saved.SavedState.{SavedState}
 use Rattle.wire_codec.specs.declared.envelope.Envelope.{Envelope}
 use Rattle.wire_codec.specs.declared.envelope.Body.{Body}
 use Rattle.wire_codec.specs.declared.envelope.Body.TheVariants as kinds
 use Rattle.raft_model.specs.declared.state.State.{State as Replica}
-use Rattle.raft_model.specs.Roster.{at}
+use Rattle.roster.specs.Roster.{at}
 use Rattle.raft_model.specs.Group.{term_of}
 use Rattle.raft_safety.specs.History.{Reign, History}
 use Rattle.raft_safety.specs.Replicas.{Stage, whole, of_batch, of_replica, to_be_saved, IsSound, IsSavedTo, IsCandidate, IsLeader}
@@ -33,8 +33,8 @@ module _ {voters : List ℕ} {v : ℕ} {h k : History} {d e : List Entry} {Secur
   pub term_same : (front : ℕ) → front ≤ length d → term_of d front ≡ term_of e front
   term_same front m = sym (term_agree front g.decided m)
 
-  -- so a batch is the same stage, seen with the longer list
-  pub batch_same : (b : Batch) → b.front ≤ length d → of_batch d b ≡ of_batch e b
+  -- so what is saved is the same stage, seen with the longer list
+  pub batch_same : (b : SavedState) → b.front ≤ length d → of_batch d b ≡ of_batch e b
   batch_same b m = ap (λ xs. record { term = b.term; vote = b.vote; commit = b.commit; front = b.front; log = xs }) (whole_same b.front b.entries m)
 
   -- and a replica
@@ -142,7 +142,7 @@ module _ {voters : List ℕ} {v : ℕ} {h k : History} {d e : List Entry} {Secur
   kept_at u other t c some voted = g.votes u t c some (inl other) voted
 
   -- another host keeps all its sentences
-  pub host_grown : {u : ℕ} {b : Batch} {r : Replica} → u ≢ v → IsHost h d Secured Answers u b r → IsHost k e SecuredNow AnswersNow u b r
+  pub host_grown : {u : ℕ} {b : SavedState} {r : Replica} → u ≢ v → IsHost h d Secured Answers u b r → IsHost k e SecuredNow AnswersNow u b r
   host_grown {u} {b} {r} other q =
       let s = q.stands in
       let saved_front : b.front ≤ length d = omega (arith, s.saved.front, s.saved.commit.right) in
@@ -175,13 +175,13 @@ module _ {voters : List ℕ} {v : ℕ} {h k : History} {d e : List Entry} {Secur
               subst (λ x. TellsAll k e AnswersNow k.saving u p.envelopes x) P (tells_all_grown k.saving h.saving u (kept_at u other) more p.envelopes (of_batch d (to_be_saved b r)) a.0),
               subst (λ x. TellsAll k e AnswersNow k.saving u p.envelopes x) N (tells_all_grown k.saving h.saving u (kept_at u other) more p.envelopes (of_replica d r) a.1),
             );
-        inbox = λ y is. decided_longer y.index y.term g.decided (q.inbox y is);
+        inbox = λ y is. decided_longer y.received.index y.received.term g.decided (q.inbox y is);
         covered = q.covered;
         based = (q.based.0 ∙ term_same b.front saved_front, q.based.1 ∙ term_same (to_be_saved b r).front saving_front, q.based.2 ∙ term_same r.log.front front);
       }
 
   -- and its envelopes on the wire bind it as before
-  pub told_grown : {m : Envelope} {b : Batch} {r : Replica} → m.from ≢ v → IsHost h d Secured Answers m.from b r → IsTold h d Answers m b r → IsTold k e AnswersNow m b r
+  pub told_grown : {m : Envelope} {b : SavedState} {r : Replica} → m.from ≢ v → IsHost h d Secured Answers m.from b r → IsTold h d Answers m b r → IsTold k e AnswersNow m b r
   told_grown {m} {b} {r} other q t =
       let s = q.stands in
       let B = batch_same b (omega (arith, s.saved.front, s.saved.commit.right)) in

@@ -1,7 +1,7 @@
 -- A step at one host with which the history or the decided list grows, while the wire, what is saved and what is pending stay.
 use Rattle.std.proofs.Common.{◌≡◌, ◌≢◌, ℕ, ◌≤◌, List, sym, ap, ◌∙◌, subst, arith, inl, Some, None, true}
 use Rattle.host_ids.specs.declared.entry.Entry.{Entry}
-use Rattle.host_ids.specs.declared.entry.Batch.{Batch}
+use Rattle.raft_model.specs.declared.saved.SavedState.{SavedState}
 use Rattle.wire_codec.specs.declared.envelope.Envelope.{Envelope}
 use Rattle.raft_model.specs.declared.state.State.{State as Replica}
 use Rattle.raft_model.specs.Group.{Group, merged, term_of, is_decided}
@@ -16,7 +16,7 @@ use Rattle.raft_safety.proofs.Frame.Opened.{SecuredBut, Open, frame}
 use Rattle.raft_safety.proofs.Frame.Words.{Outlives, tells_on, all_on}
 use Rattle.raft_model.specs.declared.state.Inbox.{Inbox}
 
-module _ {g : Group} {v : ℕ} {h k : History} {b : Batch} {r : Replica} (q : Replica) {d e : List Entry} {w : List Envelope} (o : Open h g v b r d w)
+module _ {g : Group} {v : ℕ} {h k : History} {b : SavedState} {r : Replica} (q : Replica) {d e : List Entry} {w : List Envelope} (o : Open h g v b r d w)
     (grows : Grows v h k d e (SecuredBut g v b) (SecuredBut g v b) (HasAnswer w) (HasAnswer w)) (adds : Adds g.voters v h k d e (SecuredBut g v b)) where
   -- the common sentences hold of the longer history and list
   pub common_moved : Common g.voters k e (SecuredBut g v b)
@@ -36,13 +36,13 @@ module _ {g : Group} {v : ℕ} {h k : History} {b : Batch} {r : Replica} (q : Re
 
   module _ (kept : (t c : ℕ) → c ≢ 0 → h.vote v t ≡ c → k.vote v t ≡ c) (told : (t : ℕ) → h.told v t ≤ k.told v t) (saving : (t : ℕ) → h.saving v t ≤ k.saving v t)
       (stands : Stands k e (SecuredBut g v b) (HasAnswer w) v b q)
-      (held : r.held ≡ q.held) (pending : r.pending ≡ q.pending) (inbox : (y : Inbox) → q.inbox ≡ Some y → is_decided e y.index y.term ≡ true)
+      (held : r.held ≡ q.held) (pending : r.pending ≡ q.pending) (inbox : (y : Inbox) → q.inbox ≡ Some y → is_decided e y.received.index y.received.term ≡ true)
       (covered : q.log.front ≤ q.stable)
       (based : (b.front_term ≡ term_of e b.front) × ((to_be_saved b q).front_term ≡ term_of e (to_be_saved b q).front) × (q.log.front_term ≡ term_of e q.log.front))
       (lives : Outlives k e v (of_replica e r) (of_replica e q)) where
     -- the replica is saving what it was saving
     same_saving : to_be_saved b r ≡ to_be_saved b q
-    same_saving = ap (λ p. elim p as (λ _. Batch) [ None ↦ b | Some x ↦ merged b x.batch ]) pending
+    same_saving = ap (λ p. elim p as (λ _. SavedState) [ None ↦ b | Some x ↦ merged b x.batch ]) pending
 
     -- envelopes tell of the longer history what they told
     all_later : (now before : ℕ → ℕ → ℕ) → ((t : ℕ) → before v t ≤ now v t) → (es : List Envelope) (x : Stage) → TellsAll h d (HasAnswer w) before v es x → TellsAll k e (HasAnswer w) now v es x

@@ -1,10 +1,10 @@
--- A group at work on one host: the invariant with that host's batch and replica, the decided list and the wire taken out of the group, so that an event is a list of small steps.
+-- A group at work on one host: the invariant with that host's saved state and replica, the decided list and the wire taken out of the group, so that an event is a list of small steps.
 use Rattle.std.proofs.Common.{◌≡◌, ◌≢◌, ◌⊎◌, ⊎_elim, ℕ, ◌+◌, ◌<◌, List, ◌++◌, false, refl, sym, ◌∙◌, subst, arith, inl, inr}
 use Rattle.std.specs.Prelude.{slice_set}
 use Rattle.std.proofs.lemmas.Bool.{cases_eq}
 use Rattle.std.proofs.lemmas.List.{get_or-set_same, get_or-set_other, length-set, set-get_or}
 use Rattle.host_ids.specs.declared.entry.Entry.{Entry}
-use Rattle.host_ids.specs.declared.entry.Batch.{Batch}
+use Rattle.raft_model.specs.declared.saved.SavedState.{SavedState}
 use Rattle.wire_codec.specs.declared.envelope.Envelope.{Envelope}
 use Rattle.raft_model.specs.declared.state.State.{State as Replica}
 use Rattle.raft_model.specs.Replica.{fresh}
@@ -17,12 +17,12 @@ use Rattle.raft_safety.proofs.Frame.Growth.{Grows, vote_grown}
 use Rattle.raft_safety.proofs.Frame.Common.{Adds, common_grown}
 use Rattle.raft_safety.proofs.Frame.Hosts.{host_grown, told_grown}
 
--- what is secured where this batch is what host v has saved
-abbrev pub SecuredBut : Group → ℕ → Batch → ℕ → ℕ → ℕ → Type 0
+-- what is secured where this is what host v has saved
+abbrev pub SecuredBut : Group → ℕ → SavedState → ℕ → ℕ → ℕ → Type 0
 SecuredBut g v b u t c = ((u ≡ v) × IsSecured b.term b.vote t c) ⊎ ((u ≢ v) × Secured g u t c)
 
 -- a group at work on host v: the invariant of the group in which v has saved b and stands as r, the decided list is d and the wire is w
-pub record Open (h : History) (g : Group) (v : ℕ) (b : Batch) (r : Replica) (d : List Entry) (w : List Envelope) : Type 0 where
+pub record Open (h : History) (g : Group) (v : ℕ) (b : SavedState) (r : Replica) (d : List Entry) (w : List Envelope) : Type 0 where
   pub common : Common g.voters h d (SecuredBut g v b)
   pub mine : IsHost h d (SecuredBut g v b) (HasAnswer w) v b r
   pub others : (u : ℕ) → u ≢ v → IsHost h d (SecuredBut g v b) (HasAnswer w) u (saved_at g u) (replica_at g u)
@@ -30,7 +30,7 @@ pub record Open (h : History) (g : Group) (v : ℕ) (b : Batch) (r : Replica) (d
   pub wire : (m : Envelope) → IsOnWire w m → m.from ≢ v → IsTold h d (HasAnswer w) m (saved_at g m.from) (replica_at g m.from)
 
 -- what a step at host v owes: growth, what it adds to the common sentences, its own host, and its own envelopes
-pub record Changes (g : Group) (v : ℕ) (h k : History) (b c : Batch) (r q : Replica) (d e : List Entry) (w x : List Envelope) : Type 0 where
+pub record Changes (g : Group) (v : ℕ) (h k : History) (b c : SavedState) (r q : Replica) (d e : List Entry) (w x : List Envelope) : Type 0 where
   pub grows : Grows v h k d e (SecuredBut g v b) (SecuredBut g v c) (HasAnswer w) (HasAnswer x)
   pub adds : Adds g.voters v h k d e (SecuredBut g v c)
   pub mine : IsHost k e (SecuredBut g v c) (HasAnswer x) v c q
@@ -38,7 +38,7 @@ pub record Changes (g : Group) (v : ℕ) (h k : History) (b c : Batch) (r q : Re
   pub sent : (m : Envelope) → IsOnWire x m → IsOnWire w m ⊎ ((m.from ≡ v) × IsTold k e (HasAnswer x) m c q)
 
 -- the frame: a step at one host that pays what it owes keeps everything, of all hosts
-pub frame : {g : Group} {v : ℕ} {h k : History} {b c : Batch} {r q : Replica} {d e : List Entry} {w x : List Envelope} → Open h g v b r d w → Changes g v h k b c r q d e w x → Open k g v c q e x
+pub frame : {g : Group} {v : ℕ} {h k : History} {b c : SavedState} {r q : Replica} {d e : List Entry} {w x : List Envelope} → Open h g v b r d w → Changes g v h k b c r q d e w x → Open k g v c q e x
 frame {g} {v} {h} {k} {b} {c} {d} {e} {w} {x} o s = record {
   common = common_grown o.common s.grows s.adds;
   mine = s.mine;
@@ -93,7 +93,7 @@ module _ {h : History} {voters : List ℕ} {d : List Entry} {Sec : ℕ → ℕ �
   common_same = let g = grows_none 0 h d Sec SecNow Ans AnsNow secured heard in common_grown i g (adds_none i g)
 
   -- and so do those on a host
-  host_same : (u : ℕ) (b : Batch) (r : Replica) → IsHost h d Sec Ans u b r → IsHost h d SecNow AnsNow u b r
+  host_same : (u : ℕ) (b : SavedState) (r : Replica) → IsHost h d Sec Ans u b r → IsHost h d SecNow AnsNow u b r
   host_same u b r q = host_grown i (grows_none (u + 1) h d Sec SecNow Ans AnsNow secured heard) (λ e. omega (arith, e)) q
 
 module _ {h : History} {g : Group} (i : Inv h g) (v : ℕ) where
@@ -116,12 +116,12 @@ module _ {h : History} {g : Group} (i : Inv h g) (v : ℕ) where
       }
 
 -- the group with the host, the decided list and the wire put back
-abbrev pub closed : Group → ℕ → Batch → Replica → List Entry → List Envelope → Group
+abbrev pub closed : Group → ℕ → SavedState → Replica → List Entry → List Envelope → Group
 closed g v b r d w = record g { replicas = slice_set g.replicas v r; saves = slice_set g.saves v b; decided = d; wire = w }
 
-module _ {h : History} {g : Group} {v : ℕ} {b : Batch} {r : Replica} {d : List Entry} {w : List Envelope} (tables : HasTables g) (within : v < 10) (voters : is_member g 0 ≡ false)
+module _ {h : History} {g : Group} {v : ℕ} {b : SavedState} {r : Replica} {d : List Entry} {w : List Envelope} (tables : HasTables g) (within : v < 10) (voters : is_member g 0 ≡ false)
     (o : Open h g v b r d w) where
-  -- in it host v has saved the batch
+  -- in it host v has saved this state
   saved_mine : saved_at (closed g v b r d w) v ≡ b
   saved_mine = get_or-set_same g.saves v b nothing_saved (omega (arith, within, tables.saves))
 

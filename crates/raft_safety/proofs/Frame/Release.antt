@@ -4,7 +4,7 @@ use Rattle.std.proofs.Common.{not, ◌+◌}
 use Rattle.std.specs.Prelude.{nat_le}
 use Rattle.std.proofs.lemmas.Bool.{eqb-true, leb-false, and_parts, not-true}
 use Rattle.host_ids.specs.declared.entry.Entry.{Entry}
-use Rattle.host_ids.specs.declared.entry.Batch.{Batch}
+use Rattle.raft_model.specs.declared.saved.SavedState.{SavedState}
 use Rattle.wire_codec.specs.declared.envelope.Envelope.{Envelope}
 use Rattle.raft_model.specs.declared.state.State.{State as Replica}
 use Rattle.raft_model.specs.declared.state.Pending.{Pending}
@@ -93,7 +93,7 @@ none_left : (xs : List Entry) → length xs ≡ 0 → xs ≡ []
 none_left [] e = refl
 none_left (x ∷ xs) e = absurd (omega (arith, e))
 
-module _ {g : Group} {v : ℕ} {h : History} {b : Batch} {r : Replica} {d : List Entry} {w : List Envelope} (o : Open h g v b r d w) (may : may_release r ≡ true) where
+module _ {g : Group} {v : ℕ} {h : History} {b : SavedState} {r : Replica} {d : List Entry} {w : List Envelope} (o : Open h g v b r d w) (may : may_release r ≡ true) where
   -- the replica after that
   abbrev q : Replica
   q = record r { held = [] }
@@ -108,7 +108,7 @@ module _ {g : Group} {v : ℕ} {h : History} {b : Batch} {r : Replica} {d : List
 
   -- nothing is being saved
   same_batch : to_be_saved b r ≡ b
-  same_batch = ap (λ p. elim p as (λ _. Batch) [ None ↦ b | Some x ↦ merged b x.batch ]) (unchanged r may).pending
+  same_batch = ap (λ p. elim p as (λ _. SavedState) [ None ↦ b | Some x ↦ merged b x.batch ]) (unchanged r may).pending
 
   -- what is saved is the last batch that was taken
   taken : IsTaken b r

@@ -5,7 +5,7 @@ use Rattle.std.specs.Prelude.{nat_lt, nat_le, slice_set, slice_index_or}
 use Rattle.std.proofs.lemmas.Bool.{cond_both, le-ltb, ltb-true, cases_eq}
 use Rattle.std.proofs.lemmas.List.{append-nil, append_assoc, set-get_or}
 use Rattle.host_ids.specs.declared.entry.Entry.{Entry}
-use Rattle.host_ids.specs.declared.entry.Batch.{Batch}
+use Rattle.raft_model.specs.declared.saved.SavedState.{SavedState}
 use Rattle.wire_codec.specs.declared.envelope.Envelope.{Envelope}
 use Rattle.raft_model.specs.declared.state.State.{State as Replica}
 use Rattle.raft_model.specs.Replica.{Row, may_release, in_term}
@@ -21,7 +21,7 @@ use Rattle.raft_safety.proofs.Frame.Levels.{with_levels}
 use Rattle.raft_safety.proofs.Frame.Release.{release_step}
 
 -- a row leaves a replica so that some history fits, with the decided list that the group then has
-pub record Reached (g : Group) (v : ℕ) (b : Batch) (d : List Entry) (w : List Envelope) (r : Replica) : Type 0 where
+pub record Reached (g : Group) (v : ℕ) (b : SavedState) (d : List Entry) (w : List Envelope) (r : Replica) : Type 0 where
   pub history : History
   pub holds : Open history g v b r (continued d r) w
 
@@ -30,16 +30,16 @@ pub continued_none : (d : List Entry) (r : Replica) → r.commit ≤ length d �
 continued_none d r m = ap (λ b. if b && nat_le r.log.front (length d) then d ++ take (r.commit - length d) (drop (length d - r.log.front) r.log.entries) else d) (le-ltb (length d) r.commit m)
 
 -- a row after which the group is still at work on the host, with the decided list that it had, has reached its end
-pub reached : {h : History} {g : Group} {v : ℕ} {b : Batch} {d : List Entry} {w : List Envelope} {r : Replica} → Open h g v b r d w → Reached g v b d w r
+pub reached : {h : History} {g : Group} {v : ℕ} {b : SavedState} {d : List Entry} {w : List Envelope} {r : Replica} → Open h g v b r d w → Reached g v b d w r
 reached {h} {g} {v} {b} {d} {w} {r} o = record { history = h; holds = subst (λ e. Open h g v b r e w) (sym (continued_none d r o.mine.stands.now.commit.right)) o }
 
 -- a row that is one of two, as a test says
-pub either_row : {g : Group} {v : ℕ} {b : Batch} {d : List Entry} {w : List Envelope} (test : Bool) (x y : Row) → (test ≡ true → Reached g v b d w x.replica)
+pub either_row : {g : Group} {v : ℕ} {b : SavedState} {d : List Entry} {w : List Envelope} (test : Bool) (x y : Row) → (test ≡ true → Reached g v b d w x.replica)
     → (test ≡ false → Reached g v b d w y.replica) → Reached g v b d w (if test then x else y).replica
 either_row {g} {v} {b} {d} {w} test x y passed failed = cond_both test x y (λ z. Reached g v b d w z.replica) passed failed
 
 -- a greater term is taken over, or all is as before
-pub in_term_step : {h : History} {g : Group} {v : ℕ} {b : Batch} {r : Replica} {d : List Entry} {w : List Envelope} (t : ℕ) → Open h g v b r d w → Open h g v b (in_term t r) d w
+pub in_term_step : {h : History} {g : Group} {v : ℕ} {b : SavedState} {r : Replica} {d : List Entry} {w : List Envelope} (t : ℕ) → Open h g v b r d w → Open h g v b (in_term t r) d w
 in_term_step {h} {g} {v} {b} {r} {d} {w} t o = cond_both (nat_lt r.term t) _ r (λ q. Open h g v b q d w) (λ e. term_step t (ltb-true r.term t e) o) (λ _. o)
 
 -- after that the term isn't below the envelope's
@@ -47,13 +47,13 @@ pub in_term_most : (t : ℕ) (r : Replica) → t ≤ (in_term t r).term
 in_term_most t r = cond_both (nat_lt r.term t) _ r (λ q. t ≤ q.term) (λ _. omega arith) (λ e. ltb-false r.term t e)
 
 -- an envelope on the wire was sent by a host whose saved term and vote it binds
-pub record Delivered (h : History) (g : Group) (v : ℕ) (b : Batch) (d : List Entry) (w : List Envelope) (m : Envelope) : Type 0 where
+pub record Delivered (h : History) (g : Group) (v : ℕ) (b : SavedState) (d : List Entry) (w : List Envelope) (m : Envelope) : Type 0 where
   pub stage : Stage
   pub tells : Tells h d (HasAnswer w) h.answer m.from m.to m.term m.body stage
   pub secured : (t c : ℕ) → IsSecured stage.term stage.vote t c → SecuredBut g v b m.from t c
 
 -- each envelope on the wire was, this host's own and another one's
-pub delivered : {h : History} {g : Group} {v : ℕ} {b : Batch} {r : Replica} {d : List Entry} {w : List Envelope} (m : Envelope) → Open h g v b r d w → IsOnWire w m → Delivered h g v b d w m
+pub delivered : {h : History} {g : Group} {v : ℕ} {b : SavedState} {r : Replica} {d : List Entry} {w : List Envelope} (m : Envelope) → Open h g v b r d w → IsOnWire w m → Delivered h g v b d w m
 delivered {g} {v} {b} {d} m o on =
     ⊎_elim
     (λ e. record { stage = of_batch d b; tells = (o.sent m on e).saved; secured = λ t c s. inl (e, s) })
@@ -79,7 +79,7 @@ within_table (x ∷ xs) (suc v) e = let m = within_table xs v e in omega (arith,
 
 module _ {g : Group} {v : ℕ} (tables : HasTables g) (within : v < 10) (voters : is_member g 0 ≡ false) where
   -- after a row what may go on the wire goes, after the envelopes of a batch, and the group keeps the invariant
-  pub settle : {h : History} {b : Batch} (before : List Envelope) (w : Row) → Open h g v b w.replica (continued g.decided w.replica) (g.wire ++ before)
+  pub settle : {h : History} {b : SavedState} (before : List Envelope) (w : Row) → Open h g v b w.replica (continued g.decided w.replica) (g.wire ++ before)
       → Kept (moved (record g { saves = slice_set g.saves v b }) v (released before w).replica (released before w).sent)
   settle {h} {b} before w o =
       let r = w.replica in

@@ -1,7 +1,7 @@
 -- Tables of the history, by voter and by two numbers, and the tables that a group begins with.
 use Rattle.std.specs.Prelude.{replicate, slice_index_or}
 use Rattle.std.proofs.Common.{◌≡◌, ◌≢◌, ℕ, refl, ap, ◌∙◌, if◌then◌else◌, ◌==◌, suc, zero, ⊎_elim, false, ◌⊎◌, inl, inr}
-use Rattle.raft_model.specs.Roster.{at, all_at, is_set, none_set}
+use Rattle.roster.specs.Roster.{at, all_at, is_set, none_set}
 use Rattle.std.proofs.lemmas.Bool.{eq-eqb, ne_eqb, cases_eq}
 
 -- each place of a table of one value has that value

@@ -3,17 +3,17 @@ use Rattle.std.proofs.lemmas.Bool.{cond_both, eqb-false}
 use Rattle.raft_model.specs.Replica.{each_other}
 use Rattle.std.proofs.Common.{◌≢◌, ◌==◌, if◌then◌else◌, ◌≡◌, ⊎_elim, ℕ, ◌<◌, ◌≤◌, List, [], ◌∷◌, ◌++◌, refl, sym, ap, subst, arith, inl, inr, Some, None, length, min, true, Bool, Option}
 use Rattle.host_ids.specs.declared.entry.Entry.{Entry}
-use Rattle.host_ids.specs.declared.entry.Batch.{Batch}
+use Rattle.raft_model.specs.declared.saved.SavedState.{SavedState}
 use Rattle.wire_codec.specs.declared.envelope.Envelope.{Envelope}
 use Rattle.wire_codec.specs.declared.envelope.Body.{Body}
 use Rattle.wire_codec.specs.declared.envelope.Body.TheVariants as kinds
 use Rattle.raft_model.specs.declared.state.State.{State as Replica}
-use Rattle.raft_model.specs.declared.read.OpenRead.{OpenRead}
+use Rattle.read_index.specs.Reads.{Reads, closed}
 use Rattle.raft_model.specs.declared.role.Role.{Role}
 use Rattle.raft_model.specs.declared.role.Role.TheVariants.{Follower, Candidate, Leader}
 use Rattle.raft_model.specs.declared.chunk.Chunk.{Chunk}
 use Rattle.raft_model.specs.declared.state.Inbox.{Inbox}
-use Rattle.raft_model.specs.Roster.{none_set}
+use Rattle.roster.specs.Roster.{none_set}
 use Rattle.raft_model.specs.Group.{Group, is_decided, merged}
 use Rattle.raft_safety.specs.History.{History, Agree, HoldsUpTo}
 use Rattle.raft_safety.specs.Replicas.{Stage, whole, of_batch, of_replica, to_be_saved, IsSecured, IsCandidate, IsLeader}
@@ -72,12 +72,12 @@ pub holds_limit : {h : History} {d : List Entry} {a : ℕ} (b : ℕ) {X : List E
 holds_limit b m q = record { within = q.within; decided = q.decided; most = q.most; limited = omega (arith, q.limited, m); front = q.front; rest = q.rest }
 
 -- only the replica changes, and what is pending stays
-module _ {g : Group} {v : ℕ} {h : History} {b : Batch} {r q : Replica} {d : List Entry} {w : List Envelope} where
+module _ {g : Group} {v : ℕ} {h : History} {b : SavedState} {r q : Replica} {d : List Entry} {w : List Envelope} where
   -- a step that changes the replica alone, keeps what is pending, and breaks no promise
   pub replica_step : Open h g v b r d w → IsHost h d (SecuredBut g v b) (HasAnswer w) v b q → r.pending ≡ q.pending → Outlives h d v (of_replica d r) (of_replica d q) → Open h g v b q d w
   replica_step o mine pending outlives =
       let grows = grows_none v h d (SecuredBut g v b) (SecuredBut g v b) (HasAnswer w) (HasAnswer w) (λ u t c s. s) (λ u t n a. a) in
-      let same : to_be_saved b r ≡ to_be_saved b q = ap (λ p. elim p as (λ _. Batch) [ None ↦ b | Some p ↦ merged b p.batch ]) pending in
+      let same : to_be_saved b r ≡ to_be_saved b q = ap (λ p. elim p as (λ _. SavedState) [ None ↦ b | Some p ↦ merged b p.batch ]) pending in
       frame o (record {
         grows = grows;
         adds = adds_none o.common grows;
@@ -98,9 +98,7 @@ pub record Rest : Type 0 where
   pub granted : List Bool
   pub next : List ℕ
   pub matched : List ℕ
-  pub round : ℕ
-  pub answered : List ℕ
-  pub reads : List OpenRead
+  pub reads : Reads
   pub held : List Envelope
   pub assembly : List Chunk
   pub inbox : Option Inbox
@@ -113,8 +111,6 @@ rest r = record {
   granted = r.granted;
   next = r.next;
   matched = r.matched;
-  round = r.round;
-  answered = r.answered;
   reads = r.reads;
   held = r.held;
   assembly = r.assembly;
@@ -129,8 +125,6 @@ with_rest x r = record r {
   granted = x.granted;
   next = x.next;
   matched = x.matched;
-  round = x.round;
-  answered = x.answered;
   reads = x.reads;
   held = x.held;
   assembly = x.assembly;
@@ -138,10 +132,10 @@ with_rest x r = record r {
 }
 
 -- a step that changes this part alone owes what the replica holds, that it is a candidate or leader rightly, and the inbox
-pub rest_step : {g : Group} {v : ℕ} {h : History} {b : Batch} {r : Replica} {d : List Entry} {w : List Envelope} (x : Rest) → Open h g v b r d w
+pub rest_step : {g : Group} {v : ℕ} {h : History} {b : SavedState} {r : Replica} {d : List Entry} {w : List Envelope} (x : Rest) → Open h g v b r d w
     → TellsAll h d (HasAnswer w) h.told v x.held (of_replica d r)
     → (x.role ≡ Candidate → IsCandidate h d (SecuredBut g v b) v (with_rest x r)) → (x.role ≡ Leader → IsLeader h d (HasAnswer w) v (with_rest x r))
-    → ((s : Inbox) → x.inbox ≡ Some s → is_decided d s.index s.term ≡ true) → Open h g v b (with_rest x r) d w
+    → ((s : Inbox) → x.inbox ≡ Some s → is_decided d s.received.index s.received.term ≡ true) → Open h g v b (with_rest x r) d w
 rest_step {v = v} {h = h} {r = r} {d = d} x o tells candidate leader inbox =
     let a = o.mine in
     let s = a.stands in
@@ -171,19 +165,19 @@ rest_step {v = v} {h = h} {r = r} {d = d} x o tells candidate leader inbox =
     refl (outlives_same h d v (of_replica d r))
 
 -- one more envelope is held, which tells what it says of the replica as it stands
-pub holding : {g : Group} {v : ℕ} {h : History} {b : Batch} {r : Replica} {d : List Entry} {w : List Envelope} (m : Envelope) → m.from ≡ v
+pub holding : {g : Group} {v : ℕ} {h : History} {b : SavedState} {r : Replica} {d : List Entry} {w : List Envelope} (m : Envelope) → m.from ≡ v
     → Tells h d (HasAnswer w) h.told v m.to m.term m.body (of_replica d r) → Open h g v b r d w → Open h g v b (record r { held = r.held ++ m ∷ [] }) d w
 holding {v = v} {h = h} {r = r} {d = d} {w = w} m from tells o =
     let s = o.mine.stands in
     rest_step (record (rest r) { held = r.held ++ m ∷ [] }) o (all_and h d (HasAnswer w) h.told v r.held (m ∷ []) (of_replica d r) o.mine.held (from, tells, tt)) s.candidate s.leader o.mine.inbox
 
 -- a replica follows, whatever it was
-pub follow_step : {g : Group} {v : ℕ} {h : History} {b : Batch} {r : Replica} {d : List Entry} {w : List Envelope} (leader : ℕ) → Open h g v b r d w
+pub follow_step : {g : Group} {v : ℕ} {h : History} {b : SavedState} {r : Replica} {d : List Entry} {w : List Envelope} (leader : ℕ) → Open h g v b r d w
     → Open h g v b (record r { role = Follower; leader = leader }) d w
 follow_step {r = r} leader o = rest_step (record (rest r) { role = Follower; leader = leader }) o o.mine.held (λ e. absurd (cc)) (λ e. absurd (cc)) o.mine.inbox
 
 -- the commit index rises within what is decided
-pub commit_step : {g : Group} {v : ℕ} {h : History} {b : Batch} {r : Replica} {d : List Entry} {w : List Envelope} {c : ℕ} → r.commit ≤ c → Agree c (whole d r.log.front r.log.entries) d
+pub commit_step : {g : Group} {v : ℕ} {h : History} {b : SavedState} {r : Replica} {d : List Entry} {w : List Envelope} {c : ℕ} → r.commit ≤ c → Agree c (whole d r.log.front r.log.entries) d
     → Open h g v b r d w → Open h g v b (record r { commit = c }) d w
 commit_step {g} {v} {h} {b} {r} {d} {w} {c} more agree o =
     let a = o.mine in
@@ -230,10 +224,10 @@ commit_step {g} {v} {h} {b} {r} {d} {w} {c} more agree o =
     refl lives
 
 -- a greater term is taken over, without a vote
-pub term_step : {g : Group} {v : ℕ} {h : History} {b : Batch} {r : Replica} {d : List Entry} {w : List Envelope} (t : ℕ) → r.term < t → Open h g v b r d w
-    → Open h g v b (record r { term = t; vote = 0; role = Follower; leader = 0; granted = none_set; reads = [] }) d w
+pub term_step : {g : Group} {v : ℕ} {h : History} {b : SavedState} {r : Replica} {d : List Entry} {w : List Envelope} (t : ℕ) → r.term < t → Open h g v b r d w
+    → Open h g v b (record r { term = t; vote = 0; role = Follower; leader = 0; granted = none_set; reads = closed r.reads }) d w
 term_step {g} {v} {h} {b} {r} {d} {w} t more o =
-    let q = record r { term = t; vote = 0; role = Follower; leader = 0; granted = none_set; reads = [] } in
+    let q = record r { term = t; vote = 0; role = Follower; leader = 0; granted = none_set; reads = closed r.reads } in
     let a = o.mine in
     let s = a.stands in
     let k = s.taken in

@@ -10,7 +10,7 @@ use Rattle.raft_model.specs.declared.event.LaneEvent.TheVariants as events
 use Rattle.raft_model.specs.declared.event.LaneFault.TheVariants as faults
 use Rattle.raft_model.specs.declared.input.Input.TheVariants as inputs
 use Rattle.raft_model.specs.Replica.{ripe}
-use Rattle.raft_model.specs.Restarting.{restarted}
+use Rattle.raft_model.specs.Restarting.{state_of, restarted}
 use Rattle.raft_model.specs.Step.{ready}
 use Rattle.raft_model.specs.Group.{Group, Acted, replica_at, is_member, is_up, is_asked, key_order, envelope_at, moved, did, refuses, act}
 use Rattle.raft_model.specs.Group.{at_up, inputs_at, delivers, noted_ask, saves_batch, readies, saves_id, compacts, restarts}
@@ -78,7 +78,7 @@ module _ (m : Envelope) where
   -- a start does the same
   restarts_ahead : (g : Group) (v : ℕ) (d : Durable) → restarts (ahead m g) v d ≡ acted_ahead m (restarts g v d)
   restarts_ahead g v d =
-      let started = did (moved (record g { up = slice_set g.up v true; saves = slice_set g.saves v d.batch }) v (restarted d) []) [] in
+      let started = did (moved (record g { up = slice_set g.up v true; saves = slice_set g.saves v (state_of d.batch) }) v (restarted d) []) [] in
       at_member_ahead g v (if is_up g v then refuses g faults.IsUp else started) _ (acted (is_up g v) (refuses g faults.IsUp) started)
 
   -- each event, with its number put right, does the same in the group with one more envelope
@@ -100,8 +100,6 @@ module _ (m : Envelope) where
 
   -- and it is allowed there where the event is allowed
   pub allowed_ahead : (e : LaneEvent) (g : Group) → IsAllowed g e → IsAllowed (ahead m g) (later_by_one e)
-  allowed_ahead (events.Deliver zero) g a = tt
-  allowed_ahead (events.Deliver (suc n)) g a = tt
-  allowed_ahead (events.Installed v i t) g a = record { snapshot = a.snapshot; inbox = a.inbox; index = a.index; term = a.term }
-  allowed_ahead (events.Restart v s) g a = record { left = a.left; mark = a.mark; machine = a.machine; begins = a.begins; fit = a.fit }
+  allowed_ahead (events.Deliver zero) g a = refl
+  allowed_ahead (events.Deliver (suc n)) g a = refl
   allowed_ahead e g a = a

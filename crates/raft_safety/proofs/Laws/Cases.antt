@@ -4,7 +4,7 @@ use Rattle.std.specs.Prelude.{not, nat_le, slice_set}
 use Rattle.std.specs.BTreeMap.{insert_entry}
 use Rattle.std.proofs.lemmas.Bool.{cond_both, not-false}
 use Rattle.host_ids.specs.declared.entry.Key.{Key}
-use Rattle.host_ids.specs.declared.entry.Batch.{Batch}
+use Rattle.raft_model.specs.declared.saved.SavedState.{SavedState}
 use Rattle.wire_codec.specs.declared.envelope.Envelope.{Envelope}
 use Rattle.raft_model.specs.declared.durable.Durable.{Durable}
 use Rattle.raft_model.specs.declared.event.LaneEvent.{LaneEvent}
@@ -17,7 +17,7 @@ use Rattle.raft_model.specs.declared.input.Input.TheVariants as inputs
 use Rattle.raft_model.specs.declared.state.State.{State as Replica}
 use Rattle.raft_model.specs.declared.state.Pending.{Pending}
 use Rattle.raft_model.specs.Replica.{ripe}
-use Rattle.raft_model.specs.Restarting.{restarted}
+use Rattle.raft_model.specs.Restarting.{state_of, restarted}
 use Rattle.raft_model.specs.Saving.{may_give, gave_batch, batch_of}
 use Rattle.raft_model.specs.Step.{step, saved}
 use Rattle.raft_model.specs.Group.{Group, Acted, replica_at, saved_at, is_member, is_up, is_asked, key_order, envelope_at, seat, moved, merged, did, refuses, act}
@@ -25,12 +25,12 @@ use Rattle.raft_model.specs.Group.{at_up, inputs_at, delivers, noted_ask, saves_
 
 module _ (g : Group) (v : ℕ) (P : Acted → Type 0) where
   -- Ready notes that there is nothing to save, or gives the batch
-  pub readies_cases : P (did g (notes.Idle ∷ []))
+  pub readies_cases : P (did (moved g v (replica_at g v) []) (notes.Idle ∷ []))
       → (may_give (replica_at g v) ≡ true → P (did (moved g v (gave_batch (replica_at g v)) []) (notes.Pending v (batch_of (replica_at g v)).id ∷ []))) → P (readies g v)
   readies_cases idle gives =
       let r = replica_at g v in
       elim (may_give r) as (λ x. may_give r ≡ x → P (elim (if x then Some (batch_of r) else None) as (λ _. Acted) [
-        | None ↦ did g (notes.Idle ∷ [])
+        | None ↦ did (moved g v r []) (notes.Idle ∷ [])
         | Some b ↦ did (moved g v (if x then gave_batch r else r) []) (notes.Pending v b.id ∷ [])
       ])) [ true ↦ gives | false ↦ λ e. idle ] refl
 
@@ -54,7 +54,7 @@ module _ (g : Group) (v : ℕ) (P : Acted → Type 0) where
 
     -- a start is refused, or the host is up with what was saved
     pub restarts_cases : (s : Durable)
-        → (is_member g v ≡ true → P (did (moved (record g { up = slice_set g.up v true; saves = slice_set g.saves v s.batch }) v (restarted s) []) [])) → P (restarts g v s)
+        → (is_member g v ≡ true → P (did (moved (record g { up = slice_set g.up v true; saves = slice_set g.saves v (state_of s.batch) }) v (restarted s) []) [])) → P (restarts g v s)
     restarts_cases s starts = cond_both (not (is_member g v)) _ _ P (λ _. refused faults.NotMember)
         (λ out. cond_both (is_up g v) _ _ P (λ _. refused faults.IsUp) (λ _. starts (not-false (is_member g v) out)))
 
@@ -69,9 +69,9 @@ pub noted_ask_cases : (g : Group) (key : Key) (P : Group → Type 0) → (is_ask
     → (is_asked g key ≡ false → P (record g { asks = insert_entry key_order g.asks key (length g.decided) })) → P (noted_ask g key)
 noted_ask_cases g key P before first = cond_both (is_asked g key) _ _ P before first
 
--- Any event leaves the group as it was but for which hosts are up, or moves one replica, with other hosts up, another saved batch or a first asking.
+-- Any event leaves the group as it was but for which hosts are up, or moves one replica, with other hosts up, another saved state or a first asking.
 module _ (g : Group) (P : Group → Type 0) (turns : (up : List Bool) → P (record g { up = up }))
-    (moves : (up : List Bool) (saves : List Batch) (v : ℕ) (q : Replica) (sent : List Envelope) → P (moved (record g { up = up; saves = saves }) v q sent))
+    (moves : (up : List Bool) (saves : List SavedState) (v : ℕ) (q : Replica) (sent : List Envelope) → P (moved (record g { up = up; saves = saves }) v q sent))
     (asks : (key : Key) (v : ℕ) (q : Replica) (sent : List Envelope) → is_asked g key ≡ false → P (moved (record g { asks = insert_entry key_order g.asks key (length g.decided) }) v q sent)) where
   -- the property holds of the group that an event leaves
   abbrev Q : Acted → Type 0
@@ -91,7 +91,7 @@ module _ (g : Group) (P : Group → Type 0) (turns : (up : List Bool) → P (rec
   act_leaves (events.Timeout v) = up_leaves v _ (input_leaves v inputs.Timeout)
   act_leaves (events.Beat v) = up_leaves v _ (input_leaves v inputs.Beat)
   act_leaves (events.Deliver n) = delivers_cases g (envelope_at g.wire n) Q (λ f. turns g.up) (λ m _ _ _. input_leaves m.to (inputs.Envelope m))
-  act_leaves (events.Ready v) = up_leaves v _ (readies_cases g v Q (turns g.up) (λ _. moves g.up g.saves v (gave_batch (replica_at g v)) []))
+  act_leaves (events.Ready v) = up_leaves v _ (readies_cases g v Q (moves g.up g.saves v (replica_at g v) []) (λ _. moves g.up g.saves v (gave_batch (replica_at g v)) []))
   act_leaves (events.Saved v id) = up_leaves v _ (saves_id_cases g v Q (λ f. turns g.up) id (λ p _.
       let s = saved (seat g v) p (replica_at g v) in moves g.up (slice_set g.saves v (merged (saved_at g v) p.batch)) v s.replica s.sent))
   act_leaves (events.Propose v key p) = up_leaves v _ (input_leaves v (inputs.Propose key p))
@@ -101,4 +101,4 @@ module _ (g : Group) (P : Group → Type 0) (turns : (up : List Bool) → P (rec
   act_leaves (events.Compact v i) = up_leaves v _ (compacts_cases g v Q (λ f. turns g.up) i (input_leaves v (inputs.Compact i)))
   act_leaves (events.Installed v i t) = up_leaves v _ (input_leaves v (inputs.Installed i t))
   act_leaves (events.Down v) = up_leaves v _ (turns (slice_set g.up v false))
-  act_leaves (events.Restart v s) = restarts_cases g v Q (λ f. turns g.up) s (λ _. moves (slice_set g.up v true) (slice_set g.saves v s.batch) v (restarted s) [])
+  act_leaves (events.Restart v s) = restarts_cases g v Q (λ f. turns g.up) s (λ _. moves (slice_set g.up v true) (slice_set g.saves v (state_of s.batch)) v (restarted s) [])

@@ -4,7 +4,7 @@ use Rattle.std.proofs.lemmas.List.{append-nil}
 use Rattle.host_ids.specs.declared.entry.Key.{Key}
 use Rattle.std.specs.BTreeMap.{insert_entry}
 use Rattle.host_ids.specs.declared.entry.Entry.{Entry}
-use Rattle.host_ids.specs.declared.entry.Batch.{Batch}
+use Rattle.raft_model.specs.declared.saved.SavedState.{SavedState}
 use Rattle.wire_codec.specs.declared.envelope.Envelope.{Envelope}
 use Rattle.wire_codec.specs.declared.envelope.Body.{Body}
 use Rattle.wire_codec.specs.declared.envelope.Body.TheVariants as kinds
@@ -13,7 +13,7 @@ use Rattle.raft_model.specs.declared.state.State.{State as Replica}
 use Rattle.raft_model.specs.Replica.{Row}
 use Rattle.raft_model.specs.Saving.{gave_batch, saved_batch}
 use Rattle.raft_model.specs.Step.{row, on_body, released}
-use Rattle.raft_model.specs.Group.{Group, Acted, replica_at, saved_at, is_member, key_order, envelope_at, seat, continued, stepped, act}
+use Rattle.raft_model.specs.Group.{Group, Acted, replica_at, saved_at, is_member, key_order, envelope_at, seat, continued, moved, stepped, act}
 use Rattle.raft_model.specs.Group.{at_up, delivers, noted_ask, readies, saves_id, compacts}
 use Rattle.raft_safety.specs.Invariant.{IsOnWire, Kept}
 use Rattle.raft_safety.specs.Agreed.{StaysKept}
@@ -23,6 +23,7 @@ use Rattle.raft_safety.proofs.Frame.Settle.{Reached, reached, settle, settle_row
 use Rattle.raft_safety.proofs.Laws.Cases.{at_up_cases, readies_cases, saves_id_cases, compacts_cases, noted_ask_cases}
 use Rattle.raft_safety.proofs.Laws.Owed.{EachOpen, Rows}
 use Rattle.raft_safety.proofs.Crashes.Restart.{turned_kept, restart_kept}
+use Rattle.raft_safety.proofs.Allowed.{start_of, named_of}
 
 -- the invariant says nothing of what was asked
 pub kept_asks : {g : Group} (asks : List (Key × ℕ)) → Kept g → Kept (record g { asks = asks })
@@ -46,7 +47,7 @@ at_up_kept {g} v a k next = at_up_cases g v (λ b. Kept b.group) (λ f. k) a (λ
     not_0 member z = let t : is_member g 0 ≡ true = subst (λ n. is_member g n ≡ true) z member in let f = k.holds.voters in absurd (cc)
 
 -- what a row owes holds at a host of a group that has the invariant
-at_host : {g : Group} {P : Group → ℕ → History → Batch → Replica → List Entry → List Envelope → Type 0} (v : ℕ) (k : Kept g) → v ≢ 0 → EachOpen P
+at_host : {g : Group} {P : Group → ℕ → History → SavedState → Replica → List Entry → List Envelope → Type 0} (v : ℕ) (k : Kept g) → v ≢ 0 → EachOpen P
     → P g v k.history (saved_at g v) (replica_at g v) g.decided g.wire
 at_host {g} v k some row = row g v k.history (saved_at g v) (replica_at g v) g.decided g.wire some (opened k.holds v)
 
@@ -71,12 +72,16 @@ module _ (rows : Rows) where
     body_row some m to on (kinds.ReadAsk key) e = at_host v k some (rows.read_ask m.from key)
     body_row some m to on (kinds.ReadAnswer key i) e = reached (opened k.holds v)
 
+    -- a replica that is put in keeps the invariant where it has what a row leaves
+    put_kept : (q : Replica) → v < 10 → Reached g v (saved_at g v) g.decided g.wire q → Kept (moved g v q [])
+    put_kept q within x =
+        inv_moved [] k.holds.tables within k.holds.voters (subst (λ w. Open x.history g v (saved_at g v) q (continued g.decided q) w) (sym (append-nil g.wire)) x.holds)
+
     -- Ready keeps the invariant
     ready_kept : Kept (at_up g v (readies g v)).group
-    ready_kept = at_up_kept v _ k (λ some within. readies_cases g v (λ a. Kept a.group) k (λ gives.
-        let x = at_host v k some rows.ready gives in
-        inv_moved [] k.holds.tables within k.holds.voters
-        (subst (λ w. Open x.history g v (saved_at g v) (gave_batch (replica_at g v)) (continued g.decided (gave_batch (replica_at g v))) w) (sym (append-nil g.wire)) x.holds)))
+    ready_kept = at_up_kept v _ k (λ some within. readies_cases g v (λ a. Kept a.group)
+        (put_kept (replica_at g v) within (reached (opened k.holds v)))
+        (λ gives. put_kept (gave_batch (replica_at g v)) within (at_host v k some rows.ready gives)))
 
     -- Saved keeps the invariant
     saved_kept : (id : ℕ) → Kept (at_up g v (saves_id g v id)).group
@@ -107,7 +112,7 @@ module _ (rows : Rows) where
   event_kept (events.Chunk v to c) g allowed k = input_kept v _ k (λ some. at_host v k some (rows.send_chunk to c) allowed)
   event_kept (events.Compact v i) g allowed k = compact_kept v k i
   event_kept (events.Installed v i t) g allowed k = input_kept v _ k (λ some.
-      let s = allowed.snapshot in
-      at_host v k some (rows.installed i t) (rw (allowed.index, allowed.term) at ((k.holds.hosts v).inbox s allowed.inbox)))
+      let n = named_of g v i t allowed in
+      at_host v k some (rows.installed i t) (rw (n.index, n.term) at ((k.holds.hosts v).inbox n.snapshot n.inbox)))
   event_kept (events.Down v) g allowed k = at_up_kept v _ k (λ some within. turned_kept v false k)
-  event_kept (events.Restart v s) g allowed k = restart_kept v s k allowed
+  event_kept (events.Restart v s) g allowed k = restart_kept v s k (start_of g v s allowed)

@@ -2,13 +2,13 @@
 use Rattle.std.proofs.Common.{◌≡◌, ◌≢◌, ℕ, List, Bool, true, Some, ◌++◌}
 use Rattle.host_ids.specs.declared.entry.Entry.{Entry}
 use Rattle.host_ids.specs.declared.entry.Key.{Key}
-use Rattle.host_ids.specs.declared.entry.Batch.{Batch}
+use Rattle.raft_model.specs.declared.saved.SavedState.{SavedState}
 use Rattle.host_ids.specs.declared.proposal.Proposal.{Proposal}
 use Rattle.wire_codec.specs.declared.envelope.Envelope.{Envelope}
 use Rattle.wire_codec.specs.declared.envelope.Body.TheVariants as kinds
 use Rattle.raft_model.specs.declared.state.State.{State as Replica}
 use Rattle.raft_model.specs.declared.state.Pending.{Pending}
-use Rattle.raft_model.specs.Roster.{Seat}
+use Rattle.roster.specs.Roster.{Seat}
 use Rattle.raft_model.specs.Replica.{Row, in_term}
 use Rattle.raft_model.specs.Voting.{on_timeout, on_vote, on_vote_reply}
 use Rattle.raft_model.specs.Appending.{on_append, on_append_reply}
@@ -24,8 +24,8 @@ use Rattle.raft_safety.proofs.Frame.Opened.{Open}
 use Rattle.raft_safety.proofs.Frame.Settle.{Reached}
 
 -- for any host but 0, at work in a group: the group, the host, the history, what the host has saved, its replica, the decided list and the wire
-abbrev pub EachOpen : (Group → ℕ → History → Batch → Replica → List Entry → List Envelope → Type 0) → Type 0
-EachOpen P = (g : Group) (v : ℕ) (h : History) (b : Batch) (r : Replica) (d : List Entry) (w : List Envelope) → v ≢ 0 → Open h g v b r d w → P g v h b r d w
+abbrev pub EachOpen : (Group → ℕ → History → SavedState → Replica → List Entry → List Envelope → Type 0) → Type 0
+EachOpen P = (g : Group) (v : ℕ) (h : History) (b : SavedState) (r : Replica) (d : List Entry) (w : List Envelope) → v ≢ 0 → Open h g v b r d w → P g v h b r d w
 
 -- a row that an input of the host meets leaves what some history fits
 abbrev pub InputRow : (Seat → Replica → Row) → Type 0

@@ -1,4 +1,5 @@
 -- Every row keeps what it owes, so every event that is allowed keeps the invariant.
+use Rattle.std.proofs.Common.{refl}
 use Rattle.raft_model.specs.declared.event.LaneEvent.{LaneEvent}
 use Rattle.raft_model.specs.declared.event.LaneEvent.TheVariants as events
 use Rattle.raft_safety.specs.Events.{IsAllowed, IsPlain}
@@ -54,4 +55,4 @@ plain_kept e plain g k = stays_kept e g (allowed e plain) k
     allowed (events.Chunk v to c) p = absurd p
     allowed (events.Installed v i t) p = absurd p
     allowed (events.Restart v s) p = absurd p
-    allowed e p = tt
+    allowed e p = refl

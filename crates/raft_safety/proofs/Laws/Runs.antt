@@ -5,6 +5,7 @@ use Rattle.raft_model.specs.Group.{Group, fresh_group, act, run}
 use Rattle.raft_safety.specs.Events.{IsAllowed, AreAllowed}
 use Rattle.raft_safety.specs.OneList.{IsOneList, OneList}
 use Rattle.raft_safety.specs.Runs.{BeginsToRun, GoesOnToRun, RunsAsOne, ActsAsOne}
+use Rattle.raft_safety.proofs.Allowed.{parts_of, all_of}
 
 -- a list with one event more leads where that event leads from the list's group
 run_more : (es : List LaneEvent) (e : LaneEvent) (g : Group) → (run (es ++ e ∷ []) g).group ≡ (act e (run es g).group).group
@@ -20,13 +21,13 @@ run_one e g = refl
 -- a list with one event more is allowed where the list is, and that event after it
 allowed_more : (es : List LaneEvent) (e : LaneEvent) (g : Group) → AreAllowed g es → IsAllowed (run es g).group e → AreAllowed g (es ++ e ∷ [])
 unfolding run
-allowed_more [] e g all one = (one, tt)
-allowed_more (x ∷ es) e g all one = (all.0, allowed_more es e (act x g).group all.1 one)
+allowed_more [] e g all one = all_of e [] g one refl
+allowed_more (x ∷ es) e g all one = let a = parts_of x es g all in all_of x (es ++ e ∷ []) g a.0 (allowed_more es e (act x g).group a.1 one)
 
 -- the empty list leads from a group that has just begun to itself
 pub begins : BeginsToRun
 unfolding run
-begins number voters some = record { number = number; voters = voters; some = some; events = []; allowed = tt; is = refl }
+begins number voters some = record { number = number; voters = voters; some = some; events = []; allowed = refl; is = refl }
 
 -- one more allowed event makes a longer such list
 pub goes_on : GoesOnToRun
@@ -45,4 +46,4 @@ runs one before x more all = subst (λ y. IsOneList y (run more y).group) x.is (
 
 -- and so there are over one event more
 pub acts : OneList → ActsAsOne
-acts one before x e allowed = subst (λ y. IsOneList before y) (run_one e before) (runs one before x (e ∷ []) (allowed, tt))
+acts one before x e allowed = subst (λ y. IsOneList before y) (run_one e before) (runs one before x (e ∷ []) (all_of e [] before allowed refl))

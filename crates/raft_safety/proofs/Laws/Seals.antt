@@ -5,7 +5,7 @@ use Rattle.std.proofs.lemmas.Bool.{cases_order, lt-ltb}
 use Rattle.wire_codec.specs.declared.envelope.Envelope.{Envelope}
 use Rattle.raft_model.specs.declared.role.Role.TheVariants.{Candidate, Leader}
 use Rattle.raft_model.specs.declared.event.LaneEvent.{LaneEvent}
-use Rattle.raft_model.specs.Roster.{is_majority}
+use Rattle.roster.specs.Roster.{is_majority}
 use Rattle.log_view.specs.Log.{term_at}
 use Rattle.raft_model.specs.Group.{Group, Acted, replica_at, saved_at, act, run, term_of}
 use Rattle.raft_safety.specs.Rounds.{aheads, seal}
@@ -24,6 +24,7 @@ use Rattle.raft_safety.proofs.Argument.WholeLogs.{term_whole}
 use Rattle.raft_safety.proofs.Laws.Agreed.{same_leader}
 use Rattle.raft_safety.proofs.Laws.Ahead.{ahead, later_by_one, act_ahead, allowed_ahead}
 use Rattle.raft_safety.proofs.Argument.Quorums.{majority_more}
+use Rattle.raft_safety.proofs.Allowed.{parts_of}
 
 -- the event that does the same in the group with some seals
 later_by : List Envelope → LaneEvent → LaneEvent
@@ -50,7 +51,7 @@ kept_after event_kept ms e g allowed k = rw (group_ahead ms e g) at (event_kept 
 pub run_after : StaysKept → (ms : List Envelope) (es : List LaneEvent) (g : Group) → AreAllowed g es → Kept (aheads ms g) → Kept (aheads ms (run es g).group)
 unfolding run
 run_after event_kept ms [] g all k = k
-run_after event_kept ms (e ∷ es) g all k = run_after event_kept ms es (act e g).group all.1 (kept_after event_kept ms e g all.0 k)
+run_after event_kept ms (e ∷ es) g all k = let a = parts_of e es g all in run_after event_kept ms es (act e g).group a.1 (kept_after event_kept ms e g a.0 k)
 
 -- the invariant holds with one more seal, of a leader with as much of its log as it has committed
 pub sealed : {g : Group} (u : ℕ) → Kept g → (replica_at g u).role ≡ Leader → (c : ℕ) → c ≤ (replica_at g u).commit → Kept (ahead (seal u (replica_at g u).term c) g)

@@ -15,7 +15,7 @@ use Rattle.raft_model.specs.declared.input.Input.TheVariants as inputs
 use Rattle.raft_model.specs.Replica.{Row, fresh}
 use Rattle.raft_model.specs.Saving.{gave_batch}
 use Rattle.raft_model.specs.Step.{row, on_body, released}
-use Rattle.raft_model.specs.Group.{Group, Acted, replica_at, saved_at, stepped, at_up, seat, act, run, delivers, envelope_at, noted_ask, readies, saves_id, merged, inputs_at, compacts}
+use Rattle.raft_model.specs.Group.{Group, Acted, replica_at, saved_at, moved, stepped, at_up, seat, act, run, delivers, envelope_at, noted_ask, readies, saves_id, merged, inputs_at, compacts}
 use Rattle.raft_safety.specs.Runs.{ActsFronted}
 use Rattle.raft_safety.specs.Rounds.{BeginsReads, StaysReads, NotesFronts, HasReads, ReadTells, Rounds, aheads, AllTell}
 use Rattle.raft_safety.specs.Replicas.{of_replica}
@@ -31,12 +31,13 @@ use Rattle.raft_safety.proofs.Laws.First.{first_kept}
 use Rattle.raft_safety.proofs.Laws.Events.{kept_asks}
 use Rattle.raft_safety.proofs.Laws.Seals.{kept_after}
 use Rattle.raft_safety.proofs.Reading.Asks.{StayAsked, first_asked, noted_asked, act_still, asked_first}
-use Rattle.raft_safety.proofs.Reading.Steps.{Fronted, Fronts, RowOut, tell_at, notes_and, pending_fits, saves_rise, settled, stepped_reads}
+use Rattle.raft_safety.proofs.Reading.Steps.{Does, Fronted, Fronts, RowOut, tell_at, notes_and, pending_fits, saves_rise, settled, stepped_reads}
 use Rattle.raft_safety.proofs.Reading.Rounds.{later_asks, notes_later, asked_reads}
 use Rattle.raft_safety.proofs.Reading.OtherRows.{out, start, timeout_out, vote_out, vote_reply_out, append_out, append_reply_out, propose_out, local_proposal_out, saved_does}
 use Rattle.raft_safety.proofs.Reading.ReadRows.{script_beat_out, read_ask_out, ask_out, read_answer_out, beat_out, beat_reply_out}
 use Rattle.raft_safety.proofs.Reading.SnapshotRows.{chunk_out, snap_reply_out, sends_chunk_out, compacted_out, installed_out, named_within}
 use Rattle.raft_safety.proofs.Reading.Starts.{turned_reads, restart_fronted}
+use Rattle.raft_safety.proofs.Allowed.{start_of, named_of, parts_of, all_of}
 
 -- what is on a wire is on it with seals at its head
 on_right : (ms w : List Envelope) (m : Envelope) → IsOnWire w m → IsOnWire (ms ++ w) m
@@ -81,16 +82,20 @@ module _ {g : Group} (p : HasReads g) (v : ℕ) where
     body_out (kinds.ReadAsk key) e = read_ask_out p v m.from key (tells (kinds.ReadAsk key) e)
     body_out (kinds.ReadAnswer key i) e = read_answer_out p v key i (tells (kinds.ReadAnswer key i) e)
 
+  -- a replica that is put in keeps it where it has what a row owes
+  put_reads : (q : Replica) → Does p.rounds g v q → v < 10 → Kept (aheads p.seals (moved g v q [])) → HasReads (moved g v q [])
+  put_reads q does within post =
+      settled v g.saves (λ u. omega arith) p.common (λ u o. p.hosts u) q does [] tt (let t = p.common.kept.holds.tables.replicas in omega (arith, within, t)) post
+
   -- Ready keeps it: the held envelopes wait for the batch
   ready_fronted : Fronts g (at_up g v (readies g v))
-  ready_fronted = at_up_fronted v _ p (λ within. readies_cases g v (Fronts g) (λ goes. record { reads = p; notes = (tt, tt) }) (λ _ goes.
+  ready_fronted = at_up_fronted v _ p (λ within. readies_cases g v (Fronts g)
+      (λ goes. record { reads = put_reads r (start p v) within (goes p.seals p.common.kept); notes = (tt, tt) })
+      (λ _ goes.
       let i = start p v in
-      record {
-        reads = settled v g.saves (λ u. omega arith) p.common (λ u o. p.hosts u) (gave_batch r)
-            (record { held = tt; pending = λ w e. subst (λ (z : Pending). AllTell p.rounds g.asks z.envelopes) (same_Some _ w e) i.held; role = i.role; rises = i.rises; within = i.within })
-            [] tt (let t = p.common.kept.holds.tables.replicas in omega (arith, within, t)) (goes p.seals p.common.kept);
-        notes = (tt, tt);
-      }))
+      let does : Does p.rounds g v (gave_batch r) =
+      record { held = tt; pending = λ w e. subst (λ (z : Pending). AllTell p.rounds g.asks z.envelopes) (same_Some _ w e) i.held; role = i.role; rises = i.rises; within = i.within } in
+      record { reads = put_reads (gave_batch r) does within (goes p.seals p.common.kept); notes = (tt, tt) }))
 
   -- Saved keeps it: the batch's envelopes go on the wire
   saved_fronted : (id : ℕ) → Fronts g (at_up g v (saves_id g v id))
@@ -132,9 +137,9 @@ event_fronted (events.Propose v key a) allowed p = input_fronted p v (local_prop
 event_fronted (events.Ask v key) allowed p = ask_fronted p v key
 event_fronted (events.Chunk v to c) allowed p = input_fronted p v (sends_chunk_out p v to c)
 event_fronted (events.Compact v i) allowed p = compact_fronted p v i
-event_fronted (events.Installed v i t) allowed p = input_fronted p v (installed_out p v i t (named_within p v i t allowed))
+event_fronted (events.Installed v i t) {g} allowed p = input_fronted p v (installed_out p v i t (named_within p v i t (named_of g v i t allowed)))
 event_fronted (events.Down v) allowed p = at_up_fronted v _ p (λ within goes. record { reads = turned_reads v false p; notes = tt })
-event_fronted (events.Restart v s) allowed p = restart_fronted v s p allowed
+event_fronted (events.Restart v s) {g} allowed p = restart_fronted v s p (start_of g v s allowed)
 
 -- each note of a list whose confirmed reads have their fronts has its front
 noted_at : (asks : List (Key × ℕ)) (ns : List Note) (n : Note) → AreFronted asks ns → IsNoted ns n → IsFronted asks n
@@ -158,8 +163,9 @@ module _ (event_kept : StaysKept) where
   run_fronted [] all p = record { reads = p; noted = tt; still = λ k m f. f }
   run_fronted (e ∷ es) {g} all p =
       let n = act e g in
-      let a = event_next e all.0 p in
-      let b = run_fronted es all.1 a.reads in
+      let parts = parts_of e es g all in
+      let a = event_next e parts.0 p in
+      let b = run_fronted es parts.1 a.reads in
       let after = run es n.group in
       record {
         reads = b.reads;
@@ -209,8 +215,8 @@ module _ (event_kept : StaysKept) where
   covers_now {g} p v key taken new es all host n noted =
       let e = events.Ask v key in
       let after = run (e ∷ es) g in
-      let f : AskedWithin after.group.asks key n = noted_at after.group.asks after.notes (notes.Confirmed host key n) (run_fronted (e ∷ es) (tt, all) p).noted noted in
-      let last : first_asked key after.group.asks ≡ Some (length g.decided) = (run_fronted es all (event_next e tt p).reads).still key (length g.decided) (asked_first g v key taken new) in
+      let f : AskedWithin after.group.asks key n = noted_at after.group.asks after.notes (notes.Confirmed host key n) (run_fronted (e ∷ es) (all_of e es g refl all) p).noted noted in
+      let last : first_asked key after.group.asks ≡ Some (length g.decided) = (run_fronted es all (event_next e refl p).reads).still key (length g.decided) (asked_first g v key taken new) in
       let same : f.first ≡ length g.decided = same_Some f.first (length g.decided) (sym f.asked ∙ last) in
       let w = f.within in
       omega (arith, w, same)

@@ -13,7 +13,8 @@ use Rattle.raft_model.specs.declared.role.Role.TheVariants.{Follower, Candidate,
 use Rattle.log_view.specs.Log.{Log, last}
 use Rattle.raft_model.specs.declared.progress.Appended.{Appended}
 use Rattle.raft_model.specs.declared.progress.Appended.TheVariants.{Refused, Stored}
-use Rattle.raft_model.specs.Roster.{Seat, at, none_set}
+use Rattle.roster.specs.Roster.{Seat, at, none_set}
+use Rattle.read_index.specs.Reads.{closed}
 use Rattle.raft_model.specs.Replica.{Row, quiet, is_leader, is_candidate, is_full, append_to, in_term, greatest, may_commit, commit_rule, appended, appended_to_all, no_key, crowned, lead}
 use Rattle.raft_model.specs.Voting.{election, campaigned, on_timeout, on_vote, with_grant, has_won, granted_by, counts, on_vote_reply}
 use Rattle.raft_model.specs.Appending.{takes, answers_append, follows, on_append, more_to, progress, with_progress, heard, on_append_reply, takes_append}
@@ -27,7 +28,7 @@ use Rattle.raft_safety.proofs.Frame.Roles.{leads, stands_for}
 use Rattle.raft_safety.proofs.Reading.Steps.{RowReads, Does, RowOut, not_leading, tell_and}
 
 -- what the rule on greater terms comes to: a greater term is taken over, or all is as before
-in_term_cases : (t : ℕ) (r : Replica) (P : Replica → Type 0) → (r.term < t → P (record r { term = t; vote = 0; role = Follower; leader = 0; granted = none_set; reads = [] })) → P r → P (in_term t r)
+in_term_cases : (t : ℕ) (r : Replica) (P : Replica → Type 0) → (r.term < t → P (record r { term = t; vote = 0; role = Follower; leader = 0; granted = none_set; reads = closed r.reads })) → P r → P (in_term t r)
 in_term_cases t r P new old = cond_both (nat_lt r.term t) _ _ P (λ e. new (ltb-true r.term t e)) (λ _. old)
 
 -- a replica that isn't a follower after the rule on greater terms is as it was

@@ -1,18 +1,18 @@
 -- The rows of reads: Beat, BeatReply, ReadAsk and ReadAnswer, the script's beat and the local read. Source: dissertation section 6.4.
-use Rattle.std.proofs.Common.{◌≡◌, ⊎_elim, ℕ, ◌≤◌, List, [], ◌∷◌, ◌++◌, length, true, false, sym, ap, ◌∙◌, subst, arith, inl, ◌==◌, ◌&&◌, ◌||◌, min, max, not}
+use Rattle.std.proofs.Common.{◌≡◌, ⊎_elim, ℕ, ◌≤◌, List, [], ◌∷◌, length, true, false, sym, ap, ◌∙◌, subst, arith, inl, ◌==◌, ◌&&◌, ◌||◌, min, max, not}
 use Rattle.std.specs.Prelude.{nat_lt, nat_le}
 use Rattle.std.proofs.lemmas.Bool.{cond_both, and_parts, or_parts, or_cases, not-false, eqb-true, leb-true, ltb-false}
 use Rattle.host_ids.specs.declared.entry.Key.{Key}
 use Rattle.wire_codec.specs.declared.envelope.Envelope.{Envelope}
 use Rattle.wire_codec.specs.declared.envelope.Body.TheVariants as kinds
 use Rattle.raft_model.specs.declared.state.State.{State as Replica}
-use Rattle.raft_model.specs.declared.read.OpenRead.{OpenRead}
+use Rattle.read_index.specs.declared.reads.OpenRead.{OpenRead}
 use Rattle.raft_model.specs.declared.role.Role.TheVariants.{Candidate, Leader}
 use Rattle.raft_model.specs.declared.note.Note.TheVariants as notes
 use Rattle.log_view.specs.Log.{last, term_at}
-use Rattle.raft_model.specs.Roster.{Seat, at}
+use Rattle.roster.specs.Roster.{Seat, at}
 use Rattle.raft_model.specs.Replica.{Row, is_leader, is_full, sent_in, in_term}
-use Rattle.raft_model.specs.Reading.{is_answered, confirmed, confirm, confirms, answers_round, beats, next_round, may_read, open_read}
+use Rattle.raft_model.specs.Reading.{is_answered, confirmed, confirm, confirms, waits_on, answers_round, beats, next_round, may_read, open_read}
 use Rattle.raft_model.specs.Reading.{on_beat, on_beat_reply, on_script_beat, on_read_ask, on_read_answer, on_ask}
 use Rattle.raft_model.specs.Group.{Group, replica_at, saved_at, seat}
 use Rattle.raft_safety.specs.Rounds.{AllOpen, HasReads, IsAsked, IsOpen, ReadsCommon, ReadsOfLeader, Rounds}
@@ -50,7 +50,7 @@ module _ {g : Group} (v : ℕ) {y : Rounds} {ms : List Envelope} (c : ReadsCommo
     does : Does y g v q
     role : q.role ≡ Leader
     term : q.term ≡ t
-    reads : ReadsOfLeader y g.voters g.asks t q.round q.answered q.reads
+    reads : ReadsOfLeader y g.voters g.asks t q.reads.round q.reads.answered q.reads.waiting
 
   -- a leader with what the row owes leads that term still
   leading : (q : Replica) → Does y g v q → q.role ≡ Leader → Leading q
@@ -61,7 +61,7 @@ module _ {g : Group} (v : ℕ) {y : Rounds} {ms : List Envelope} (c : ReadsCommo
 
   -- so it does with another round, other answers and other reads that fit
   reading : {q : Replica} {round : ℕ} {answered : List ℕ} {reads : List OpenRead} → Leading q → ReadsOfLeader y g.voters g.asks t round answered reads
-      → Leading (record q { round = round; answered = answered; reads = reads })
+      → Leading (record q { reads = record { round = round; answered = answered; waiting = reads } })
   reading l o = record {
     does = record { held = l.does.held; pending = l.does.pending; role = λ e. inl (was, l.term, rw l.term o); rises = l.does.rises; within = l.does.within };
     role = l.role;
@@ -70,8 +70,8 @@ module _ {g : Group} (v : ℕ) {y : Rounds} {ms : List Envelope} (c : ReadsCommo
   }
 
   -- and with one more open read that fits
-  opens : {q : Replica} (read : OpenRead) → IsOpen y g.voters g.asks t read → Leading q → Leading (record q { reads = q.reads ++ read ∷ [] })
-  opens {q} read o l = let k = l.reads in reading l (record { begun = k.begun; heard = k.heard; stay = open_and y g.voters g.asks t q.reads (read ∷ []) k.stay (o, tt) })
+  opens : {q : Replica} (read : OpenRead) → IsOpen y g.voters g.asks t read → Leading q → Leading (waits_on read q)
+  opens {q} read o l = let k = l.reads in reading l (record { begun = k.begun; heard = k.heard; stay = open_and y g.voters g.asks t q.reads.waiting (read ∷ []) k.stay (o, tt) })
 
   -- and after a beat to each other voter
   beats_lead : {q : Replica} → Leading q → Leading (beats s q)
@@ -79,22 +79,22 @@ module _ {g : Group} (v : ℕ) {y : Rounds} {ms : List Envelope} (c : ReadsCommo
       (λ u q other l. record { does = sends _ (let b = l.reads.begun in rw l.term (omega (arith, b))) l.does; role = l.role; term = l.term; reads = l.reads }) g.voters q l
 
   -- a host that had passed the term at the opening of a round answers neither that nor a later one
-  none_answers : (read : OpenRead) {q : Replica} → Leading q → (u : ℕ) → y.gone t read.round u ≡ true → ((u == v) || nat_le read.round (at q.answered u)) ≡ true → ⊥
+  none_answers : (read : OpenRead) {q : Replica} → Leading q → (u : ℕ) → y.gone t read.round u ≡ true → ((u == v) || nat_le read.round (at q.reads.answered u)) ≡ true → ⊥
   none_answers read {q} l u gone test = ⊎_elim
       (λ me. let a : y.gone t read.round v ≡ true = rw (eqb-true u v me) at gone in let b = here_still c t read.round v (saved_below v c) in absurd (cc))
       (λ told.
       let h = l.reads.heard u in
-      let a : y.gone t (at q.answered u) u ≡ true = c.more t read.round (at q.answered u) u gone (leb-true read.round (at q.answered u) told) h.0 in
-      let b : y.gone t (at q.answered u) u ≡ false = h.1 in
+      let a : y.gone t (at q.reads.answered u) u ≡ true = c.more t read.round (at q.reads.answered u) u gone (leb-true read.round (at q.reads.answered u) told) h.0 in
+      let b : y.gone t (at q.reads.answered u) u ≡ false = h.1 in
       absurd (cc))
-      (or_cases (u == v) (nat_le read.round (at q.answered u)) test)
+      (or_cases (u == v) (nat_le read.round (at q.reads.answered u)) test)
 
   -- so a read whose round a majority has answered covers what was decided when it was asked
   covered : {read : OpenRead} {q : Replica} → Leading q → IsOpen y g.voters g.asks t read → is_answered s q read ≡ true → AskedWithin g.asks read.key read.index
   covered {read} {q} l o test = ⊎_elim
       (λ a. a)
       (λ majority.
-      let b = in_both g.voters (y.gone t read.round) (λ u. (u == v) || nat_le read.round (at q.answered u)) majority test in
+      let b = in_both g.voters (y.gone t read.round) (λ u. (u == v) || nat_le read.round (at q.reads.answered u)) majority test in
       absurd (none_answers read l b.0 b.1 b.2))
       o.front
 
@@ -118,20 +118,20 @@ module _ {g : Group} (v : ℕ) {y : Rounds} {ms : List Envelope} (c : ReadsCommo
 
   -- and of all that are open
   confirms_lead : {q : Replica} → Leading q → Confirming (confirms s q)
-  confirms_lead {q} l = let k = l.reads in confirm_lead q.reads k.stay (record { leading = reading l (record { begun = k.begun; heard = k.heard; stay = tt }); notes = tt })
+  confirms_lead {q} l = let k = l.reads in confirm_lead q.reads.waiting k.stay (record { leading = reading l (record { begun = k.begun; heard = k.heard; stay = tt }); notes = tt })
 
   -- it leads still where it hears of a round that a voter answers
   hears : {q : Replica} (u round : ℕ) → Leading q → Heard u round → Leading (answers_round u round q)
   hears {q} u round l told =
       let k = l.reads in
-      let n = max (at q.answered u) round in
+      let n = max (at q.reads.answered u) round in
       let best : Heard u n = ⊎_elim
       (λ less. let e : round ≡ n = omega (arith, less) in subst (Heard u) e told)
-      (λ more. let e : at q.answered u ≡ n = omega (arith, more) in subst (Heard u) e (k.heard u))
-      (le_or (at q.answered u) round) in
+      (λ more. let e : at q.reads.answered u ≡ n = omega (arith, more) in subst (Heard u) e (k.heard u))
+      (le_or (at q.reads.answered u) round) in
       reading l (record {
         begun = k.begun;
-        heard = λ w. ⊎_elim (λ new. subst (Heard w) (sym new.1) (subst (λ z. Heard z n) (sym new.0) best)) (λ old. subst (Heard w) (sym old) (k.heard w)) (at_set q.answered u n w);
+        heard = λ w. ⊎_elim (λ new. subst (Heard w) (sym new.1) (subst (λ z. Heard z n) (sym new.0) best)) (λ old. subst (Heard w) (sym old) (k.heard w)) (at_set q.reads.answered u n w);
         stay = k.stay;
       })
 
@@ -163,7 +163,7 @@ module _ {g : Group} (p : HasReads g) (v : ℕ) where
       let parts = and_parts (is_leader r) (term_at r.log r.commit == r.term) may in
       let role = leads r parts.0 in
       let c = opened_common p v role in
-      let read : OpenRead = record { key = key; origin = origin; index = r.commit; round = (next_round r).round } in
+      let read : OpenRead = record { key = key; origin = origin; index = r.commit; round = (next_round r).reads.round } in
       let o = opened_front p v role (eqb-true (term_at r.log r.commit) r.term parts.1) key origin asked in
       let z = confirms_lead v c role (beats_lead v c role (opens v c role read o (next_leads role))) in
       record { rounds = after p v role; seals = _; common = c; others = opened_others p v role; row = z.leading.does; notes = z.notes }

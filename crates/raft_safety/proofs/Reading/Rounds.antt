@@ -8,11 +8,11 @@ use Rattle.wire_codec.specs.declared.envelope.Envelope.{Envelope}
 use Rattle.wire_codec.specs.declared.envelope.Body.{Body}
 use Rattle.wire_codec.specs.declared.envelope.Body.TheVariants as kinds
 use Rattle.raft_model.specs.declared.state.State.{State as Replica}
-use Rattle.raft_model.specs.declared.read.OpenRead.{OpenRead}
+use Rattle.read_index.specs.declared.reads.OpenRead.{OpenRead}
 use Rattle.raft_model.specs.declared.role.Role.TheVariants.{Leader}
 use Rattle.raft_model.specs.declared.note.Note.{Note}
 use Rattle.raft_model.specs.declared.note.Note.TheVariants as notes
-use Rattle.raft_model.specs.Roster.{at}
+use Rattle.roster.specs.Roster.{at}
 use Rattle.log_view.specs.Log.{term_at}
 use Rattle.raft_model.specs.Reading.{next_round}
 use Rattle.raft_model.specs.Group.{Group, replica_at, saved_at, key_order, noted_ask}
@@ -229,18 +229,18 @@ module _ {g : Group} (p : HasReads g) (v : ℕ) (role : (replica_at g v).role �
       record {
         held = all_later opened_later r.held a.held;
         pending = λ q e. all_later opened_later q.envelopes (a.pending q e);
-        role = λ e. inl (role, refl, leader_later opened_later (r.round + 1) (ap (λ k. k + 1) o.begun ∙ sym (count_mine t refl)) o);
+        role = λ e. inl (role, refl, leader_later opened_later (r.reads.round + 1) (ap (λ k. k + 1) o.begun ∙ sym (count_mine t refl)) o);
         rises = λ was e. omega arith;
         within = inr role;
       }
 
   -- a read that opens in the new round covers what is decided, or a majority had passed the term by then
   pub opened_front : term_at r.log r.commit ≡ r.term → (key : Key) (origin : ℕ) → IsAsked g.asks key
-      → IsOpen after g.voters g.asks t (record { key = key; origin = origin; index = r.commit; round = (next_round r).round })
+      → IsOpen after g.voters g.asks t (record { key = key; origin = origin; index = r.commit; round = (next_round r).reads.round })
   opened_front own key origin asked =
       let c = p.common in
       let m : asked.first ≤ length g.decided = c.bounded key asked.first asked.asked in
-      let round : (next_round r).round ≡ n = ap (λ k. k + 1) ((p.hosts v).leader role).begun in
+      let round : (next_round r).reads.round ≡ n = ap (λ k. k + 1) ((p.hosts v).leader role).begun in
       let covered : length g.decided ≤ r.commit → AskedWithin g.asks key r.commit = λ w. record { first = asked.first; asked = asked.asked; within = omega (arith, w, m) } in
       record {
         within = omega (arith, round, count_mine t refl);
@@ -248,7 +248,7 @@ module _ {g : Group} (p : HasReads g) (v : ℕ) (role : (replica_at g v).role �
             (λ none. inl (covered (omega (arith, none))))
             (λ by. ⊎_elim
             (λ w. inl (covered w))
-            (λ majority. inr (majority_more g.voters passed (after.gone t (next_round r).round) (λ u e. gone_mine t (next_round r).round u (record { first = refl; second = round }) ∙ e) majority))
+            (λ majority. inr (majority_more g.voters passed (after.gone t (next_round r).reads.round) (λ u e. gone_mine t (next_round r).reads.round u (record { first = refl; second = round }) ∙ e) majority))
             (front_or_gone p.seals g c.kept by.host by.term by.there v role own (λ here. (rw (← here) at by.own) role)))
             c.decided;
       }

@@ -4,7 +4,7 @@ use Rattle.std.specs.Prelude.{nat_lt, nat_le}
 use Rattle.std.proofs.lemmas.Bool.{cond_both, and_parts}
 use Rattle.raft_model.specs.declared.chunk.Chunk.{Chunk}
 use Rattle.raft_model.specs.declared.state.State.{State as Replica}
-use Rattle.raft_model.specs.Roster.{Seat}
+use Rattle.roster.specs.Roster.{Seat}
 use Rattle.raft_model.specs.Replica.{is_leader, is_follower, ripe, in_term}
 use Rattle.raft_model.specs.Appending.{follows, progress, with_progress, reached}
 use Rattle.raft_model.specs.Snapping.{taken, after_take, on_chunk, on_snap_reply, sends_chunk, compacted, stays, based, replied, installed}
@@ -70,5 +70,5 @@ module _ {g : Group} (p : HasReads g) (v : ℕ) where
   pub named_within : (i t : ℕ) → IsNamed g v i t → i ≤ length g.decided
   named_within i t a =
       let s = a.snapshot in
-      let m = (decided_place g.decided s.index s.term ((p.common.kept.holds.hosts v).inbox s a.inbox)).0 in
+      let m = (decided_place g.decided s.received.index s.received.term ((p.common.kept.holds.hosts v).inbox s a.inbox)).0 in
       omega (arith, m, a.index)

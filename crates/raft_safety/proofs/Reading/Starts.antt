@@ -1,11 +1,11 @@
 -- A host that goes down, or starts again, keeps the invariant of reads: it begins with no read, and what it has saved has no lower term than before.
-use Rattle.std.proofs.Common.{⊎_elim, ℕ, ◌≤◌, List, [], length, Bool, true, arith}
+use Rattle.std.proofs.Common.{⊎_elim, ℕ, ◌≤◌, List, [], length, Bool, true, sym, subst, arith}
 use Rattle.std.specs.Prelude.{slice_set}
 use Rattle.std.proofs.lemmas.List.{append-nil, set_past}
-use Rattle.host_ids.specs.declared.entry.Batch.{Batch}
+use Rattle.raft_model.specs.declared.saved.SavedState.{SavedState}
 use Rattle.wire_codec.specs.declared.envelope.Envelope.{Envelope}
 use Rattle.raft_model.specs.declared.durable.Durable.{Durable}
-use Rattle.raft_model.specs.Restarting.{restarted}
+use Rattle.raft_model.specs.Restarting.{state_of, restarted}
 use Rattle.raft_model.specs.Group.{Group, saved_at, moved, restarts}
 use Rattle.raft_safety.specs.Invariant.{Kept}
 use Rattle.raft_safety.specs.Events.{IsAllowedStart}
@@ -31,12 +31,15 @@ module _ {g : Group} (v : ℕ) (s : Durable) (p : HasReads g) (allowed : IsAllow
   up = record g { up = slice_set g.up v true }
 
   -- what each host has saved then
-  abbrev saves : List Batch
-  saves = slice_set g.saves v s.batch
+  abbrev saves : List SavedState
+  saves = slice_set g.saves v (state_of s.batch)
 
   -- what a crash leaves has no lower term than what was saved, and a commit index within the decided list
   left : ((saved_at g v).term ≤ s.batch.term) × (s.batch.commit ≤ length g.decided)
-  left = let x = (p.common.kept.holds.hosts v).stands in ⊎_elim (λ same. rw same (omega arith, x.saved.commit.right)) (λ more. rw more.2 (pending_fits p.common v more.0 more.1)) allowed.left
+  left =
+      let x = (p.common.kept.holds.hosts v).stands in
+      let fits = λ (y : SavedState). ((saved_at g v).term ≤ y.term) × (y.commit ≤ length g.decided) in
+      ⊎_elim (λ same. subst fits (sym same) (omega arith, x.saved.commit.right)) (λ more. subst fits (sym more.2) (pending_fits p.common v more.0 more.1)) allowed.left
 
   -- the replica that starts from it has a commit index within the decided list
   known : (restarted s).commit ≤ length g.decided
@@ -52,8 +55,8 @@ module _ {g : Group} (v : ℕ) (s : Durable) (p : HasReads g) (allowed : IsAllow
       let t = p.common.kept.holds.tables in
       ⊎_elim
       (λ past. rw (continued_none g.decided (restarted s) known) (rw (append-nil g.wire)
-      (rw (set_past g.saves v s.batch (omega (arith, past, t.saves))) (rw (set_past g.replicas v (restarted s) (omega (arith, past, t.replicas))) (turned_reads v true p)))))
-      (λ within. settled v saves (saves_rise g v s.batch (omega (arith, within, t.saves)) left.0) (turned_common v true p.common) (λ u o. p.hosts u)
+      (rw (set_past g.saves v (state_of s.batch) (omega (arith, past, t.saves))) (rw (set_past g.replicas v (restarted s) (omega (arith, past, t.replicas))) (turned_reads v true p)))))
+      (λ within. settled v saves (saves_rise g v (state_of s.batch) (omega (arith, within, t.saves)) left.0) (turned_common v true p.common) (λ u o. p.hosts u)
       (restarted s) begins [] tt (omega (arith, within, t.replicas)) post)
       (le_or 10 v)
 

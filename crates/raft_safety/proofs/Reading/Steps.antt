@@ -5,14 +5,14 @@ use Rattle.std.proofs.lemmas.Bool.{cond_both, cases_eq}
 use Rattle.std.proofs.lemmas.List.{get_or-set_same, get_or-set_other, length-append, length-take}
 use Rattle.host_ids.specs.declared.entry.Entry.{Entry}
 use Rattle.host_ids.specs.declared.entry.Key.{Key}
-use Rattle.host_ids.specs.declared.entry.Batch.{Batch}
+use Rattle.raft_model.specs.declared.saved.SavedState.{SavedState}
 use Rattle.wire_codec.specs.declared.envelope.Envelope.{Envelope}
 use Rattle.raft_model.specs.declared.state.State.{State as Replica}
 use Rattle.raft_model.specs.declared.state.Pending.{Pending}
-use Rattle.raft_model.specs.declared.read.OpenRead.{OpenRead}
+use Rattle.read_index.specs.declared.reads.OpenRead.{OpenRead}
 use Rattle.raft_model.specs.declared.role.Role.TheVariants.{Candidate, Leader}
 use Rattle.raft_model.specs.declared.note.Note.{Note}
-use Rattle.raft_model.specs.Roster.{at, all_at}
+use Rattle.roster.specs.Roster.{at, all_at}
 use Rattle.raft_model.specs.Replica.{Row, fresh, may_release}
 use Rattle.raft_model.specs.Step.{Step, released}
 use Rattle.raft_model.specs.Group.{Group, Acted, replica_at, saved_at, nothing_saved, continued, moved, stepped}
@@ -114,16 +114,16 @@ pub pending_fits : {x : Rounds} {ms : List Envelope} {g : Group} → ReadsCommon
     → ((saved_at g v).term ≤ p.batch.term) × (p.batch.commit ≤ length g.decided)
 pending_fits {g} c v p is = let s = (c.kept.holds.hosts v).stands in let a = s.first.term in let b = s.saving.commit.right in (rw (is, to_be_saved) at a, rw (is, to_be_saved) at b)
 
--- where a batch of no lower term is saved, no saved term is lower
-pub saves_rise : (g : Group) (v : ℕ) (b : Batch) → v < length g.saves → (saved_at g v).term ≤ b.term → (u : ℕ) → (saved_at g u).term ≤ (saved_at (record g { saves = slice_set g.saves v b }) u).term
+-- where a state of no lower term is saved, no saved term is lower
+pub saves_rise : (g : Group) (v : ℕ) (b : SavedState) → v < length g.saves → (saved_at g v).term ≤ b.term → (u : ℕ) → (saved_at g u).term ≤ (saved_at (record g { saves = slice_set g.saves v b }) u).term
 saves_rise g v b within more u = ⊎_elim
     (λ same. rw same (rw (get_or-set_same g.saves v b nothing_saved within) more))
     (λ o. rw (get_or-set_other g.saves v u b nothing_saved o) (omega arith))
     (cases_eq u v)
 
--- The group after a row, with other saved batches.
+-- The group after a row, with other saved states.
 
-module _ {g : Group} (v : ℕ) (saves : List Batch) (more : (u : ℕ) → (saved_at g u).term ≤ (saved_at (record g { saves = saves }) u).term)
+module _ {g : Group} (v : ℕ) (saves : List SavedState) (more : (u : ℕ) → (saved_at g u).term ≤ (saved_at (record g { saves = saves }) u).term)
     {x : Rounds} {ms : List Envelope} (c : ReadsCommon x ms g) (others : (u : ℕ) → u ≢ v → IsReader x g.voters g.asks (view (replica_at g u)))
     (q : Replica) (row : Does x g v q) (sent : List Envelope) (tells : AllTell x g.asks sent)
     (within : v < length g.replicas) (post : Kept (aheads ms (moved (record g { saves = saves }) v q sent))) where
@@ -180,7 +180,7 @@ module _ {g : Group} (v : ℕ) (saves : List Batch) (more : (u : ℕ) → (saved
         let none = unopened q.term new.0 (sym new.1) role refl in
         record {
           begun = n.begun ∙ sym none;
-          heard = λ u. let a : at q.answered u ≡ 0 = rw n.heard (none_matched u) in (omega (arith, a), rw a (not_gone c q.term u));
+          heard = λ u. let a : at q.reads.answered u ≡ 0 = rw n.heard (none_matched u) in (omega (arith, a), rw a (not_gone c q.term u));
           stay = rw n.stay tt;
         })
         (row.role role);
@@ -239,7 +239,7 @@ module _ {g : Group} (v : ℕ) (saves : List Batch) (more : (u : ℕ) → (saved
   settled = ⊎_elim same_list more_list (le_or q.commit (length d))
 
 -- an event that is a row, whose envelopes may then be released after others, keeps it
-pub stepped_reads : {g : Group} {v : ℕ} (saves : List Batch) → ((u : ℕ) → (saved_at g u).term ≤ (saved_at (record g { saves = saves }) u).term) → v < length g.replicas
+pub stepped_reads : {g : Group} {v : ℕ} (saves : List SavedState) → ((u : ℕ) → (saved_at g u).term ≤ (saved_at (record g { saves = saves }) u).term) → v < length g.replicas
     → (before : List Envelope) {w : Row} (o : RowOut g v w) → AllTell o.rounds g.asks before → Fronts g (stepped (record g { saves = saves }) v (released before w))
 stepped_reads {g} {v} saves more within before {w} o tells =
     let q = w.replica in

@@ -5,7 +5,7 @@ use Rattle.std.proofs.Common.{◌&&◌, not}
 use Rattle.std.specs.Prelude.{nat_lt, nat_le}
 use Rattle.std.proofs.lemmas.Bool.{ltb-false, le-leb, eqb-true, or_parts, not-false}
 use Rattle.host_ids.specs.declared.entry.Entry.{Entry}
-use Rattle.host_ids.specs.declared.entry.Batch.{Batch}
+use Rattle.raft_model.specs.declared.saved.SavedState.{SavedState}
 use Rattle.wire_codec.specs.declared.envelope.Envelope.{Envelope}
 use Rattle.wire_codec.specs.declared.envelope.Body.TheVariants as kinds
 use Rattle.raft_model.specs.declared.state.State.{State as Replica}
@@ -33,7 +33,7 @@ use Rattle.raft_safety.proofs.Replication.OldAnswers.{old_answer}
 use Rattle.raft_safety.proofs.Argument.Decided.{same_reign}
 
 -- a host that holds the leader's log up to a place, after what it has committed
-module _ {g : Group} {v : ℕ} {k : History} {b : Batch} {q : Replica} {d : List Entry} {w : List Envelope} (o : Open k g v b q d w) (R : Reign) (led : IsLed k.reigns R) (term : R.term ≡ q.term)
+module _ {g : Group} {v : ℕ} {k : History} {b : SavedState} {q : Replica} {d : List Entry} {w : List Envelope} (o : Open k g v b q d w) (R : Reign) (led : IsLed k.reigns R) (term : R.term ≡ q.term)
     {c : ℕ} (leads : Agree c R.log d) where
   -- the host's whole log: the decided places up to its front, then its entries
   abbrev W : List Entry
@@ -67,7 +67,7 @@ module _ {g : Group} {v : ℕ} {k : History} {b : Batch} {q : Replica} {d : List
       (commit_step (omega arith) (within_leader (omega arith) here goes (min c n) (omega arith) (omega arith)) o)
 
 -- a host tells that it holds what it has committed
-module _ {g : Group} {v : ℕ} {k : History} {b : Batch} {q : Replica} {d : List Entry} {w : List Envelope} (o : Open k g v b q d w) (i c : ℕ) (low : i ≤ q.commit) where
+module _ {g : Group} {v : ℕ} {k : History} {b : SavedState} {q : Replica} {d : List Entry} {w : List Envelope} (o : Open k g v b q d w) (i c : ℕ) (low : i ≤ q.commit) where
   -- it answers for a place up to its commit index, and the commit index stays
   pub low_answer_step : (from : ℕ) → Open k g v b (sent (seat g v) from (kinds.AppendReply true i) (record q { commit = max q.commit (min c i) })) d w
   low_answer_step from =
@@ -90,7 +90,7 @@ module _ {g : Group} {v : ℕ} {k : History} {b : Batch} {q : Replica} {d : List
       (subst (λ n. Open k g v b (record q { commit = n }) d w) (sym same) o)
 
 -- a follower, and what is on the wire from the leader of its term
-module _ {g : Group} {v : ℕ} {h : History} {b : Batch} {r : Replica} {d : List Entry} {w : List Envelope} (o : Open h g v b r d w) (follower : r.role ≡ Follower)
+module _ {g : Group} {v : ℕ} {h : History} {b : SavedState} {r : Replica} {d : List Entry} {w : List Envelope} (o : Open h g v b r d w) (follower : r.role ≡ Follower)
     {from prev pt c : ℕ} {es : List Entry} (x : IsOfLeader h d from r.term prev pt c es) where
   -- the reign that sent it
   abbrev R : Reign

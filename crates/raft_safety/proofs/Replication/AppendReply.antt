@@ -5,13 +5,13 @@ use Rattle.std.specs.Prelude.{nat_lt, nat_le, slice_set}
 use Rattle.std.proofs.lemmas.Bool.{cases_eq, eqb-true, and_parts}
 use Rattle.std.proofs.lemmas.List.{get_or-set_same, get_or-set_other, set_past}
 use Rattle.host_ids.specs.declared.entry.Entry.{Entry}
-use Rattle.host_ids.specs.declared.entry.Batch.{Batch}
+use Rattle.raft_model.specs.declared.saved.SavedState.{SavedState}
 use Rattle.wire_codec.specs.declared.envelope.Envelope.{Envelope}
 use Rattle.wire_codec.specs.declared.envelope.Body.TheVariants as kinds
 use Rattle.raft_model.specs.declared.state.State.{State as Replica}
 use Rattle.raft_model.specs.declared.role.Role.TheVariants.{Leader}
 use Rattle.log_view.specs.Log.{last}
-use Rattle.raft_model.specs.Roster.{at}
+use Rattle.roster.specs.Roster.{at}
 use Rattle.raft_model.specs.Replica.{Row, quiet, is_leader, append_to, commit_rule, in_term}
 use Rattle.raft_model.specs.Appending.{more_to, heard, progress, with_progress}
 use Rattle.raft_model.specs.Saving.{own_match}
@@ -49,7 +49,7 @@ pub record IsMatched (h : History) (d : List Entry) (HasAnswer : ℕ → ℕ →
   pub others : (u : ℕ) → u ≢ v → (at matched u ≡ 0) ⊎ HasAnswer u t (at matched u)
 
 -- what a leader knows of its voters changes
-pub progress_step : {g : Group} {v : ℕ} {h : History} {b : Batch} {r : Replica} {d : List Entry} {w : List Envelope} (next matched : List ℕ) (o : Open h g v b r d w)
+pub progress_step : {g : Group} {v : ℕ} {h : History} {b : SavedState} {r : Replica} {d : List Entry} {w : List Envelope} (next matched : List ℕ) (o : Open h g v b r d w)
     → ((e : r.role ≡ Leader) → IsMatched h d (HasAnswer w) v r.term (o.mine.stands.leader e).reign matched) → Open h g v b (record r { next = next; matched = matched }) d w
 progress_step {r = r} next matched o m =
     let s = o.mine.stands in
@@ -59,7 +59,7 @@ progress_step {r = r} next matched o m =
     o.mine.inbox
 
 -- an answer of this term has come to a leader
-module _ {g : Group} {v : ℕ} {h : History} {b : Batch} {r : Replica} {d : List Entry} {w : List Envelope} (o : Open h g v b r d w) (m : Envelope) (on : IsOnWire w m) (i : ℕ) where
+module _ {g : Group} {v : ℕ} {h : History} {b : SavedState} {r : Replica} {d : List Entry} {w : List Envelope} (o : Open h g v b r d w) (m : Envelope) (on : IsOnWire w m) (i : ℕ) where
   -- an answer to an append, or for a whole snapshot
   abbrev pub IsReply : Type 0
   IsReply = (m.body ≡ kinds.AppendReply true i) ⊎ ((want : ℕ) × (m.body ≡ kinds.SnapReply i want true))
@@ -121,7 +121,7 @@ module _ {g : Group} {v : ℕ} {h : History} {b : Batch} {r : Replica} {d : List
       }
 
 -- a leader whose entries are saved counts them, and may commit
-module _ {g : Group} {v : ℕ} {h : History} {b : Batch} {r : Replica} {d : List Entry} {w : List Envelope} (o : Open h g v b r d w) (all_saved : h.saving v r.term ≤ h.answer v r.term) where
+module _ {g : Group} {v : ℕ} {h : History} {b : SavedState} {r : Replica} {d : List Entry} {w : List Envelope} (o : Open h g v b r d w) (all_saved : h.saving v r.term ≤ h.answer v r.term) where
   -- a leader may count its own log as far as it is saved
   own_matched : (l : IsLeader h d (HasAnswer w) v r) → IsMatched h d (HasAnswer w) v r.term l.reign (slice_set r.matched v r.stable)
   own_matched l =
@@ -155,7 +155,7 @@ continued_more g v u d q =
     (λ _. refl)
 
 -- the list goes on as far as the leader has committed, and the voter is sent more
-pub then_more_step : {g : Group} {v : ℕ} (u : ℕ) {b : Batch} {q : Replica} {d : List Entry} {w : List Envelope} → q.role ≡ Leader → Reached g v b d w q → Reached g v b d w (more_to (seat g v) u q)
+pub then_more_step : {g : Group} {v : ℕ} (u : ℕ) {b : SavedState} {q : Replica} {d : List Entry} {w : List Envelope} → q.role ≡ Leader → Reached g v b d w q → Reached g v b d w (more_to (seat g v) u q)
 then_more_step {g} {v} u {b} {q} {d} {w} role x = record {
   history = x.history;
   holds = subst (λ e. Open x.history g v b (more_to (seat g v) u q) e w) (sym (continued_more g v u d q))
@@ -163,7 +163,7 @@ then_more_step {g} {v} u {b} {q} {d} {w} role x = record {
 }
 
 -- an answer of its term at a leader: a matched index rises, or the leader steps back and sends an earlier stretch
-leader_row : {g : Group} {v : ℕ} {h : History} {b : Batch} {r : Replica} {d : List Entry} {w : List Envelope} (m : Envelope) (i : ℕ) → Open h g v b r d w → IsOnWire w m → m.term ≡ r.term
+leader_row : {g : Group} {v : ℕ} {h : History} {b : SavedState} {r : Replica} {d : List Entry} {w : List Envelope} (m : Envelope) (i : ℕ) → Open h g v b r d w → IsOnWire w m → m.term ≡ r.term
     → r.role ≡ Leader → (ok : Bool) → m.body ≡ kinds.AppendReply ok i
     → Reached g v b d w (let q = with_progress (heard m.from ok i (progress r)) r in
     (let y : Row = if ok then quiet (more_to (seat g v) m.from (commit_rule (seat g v) q)) else quiet (append_to (seat g v) m.from q) in y)).replica

@@ -1,20 +1,21 @@
 -- The rows of Beat, BeatReply and ReadAsk, of the script's beat and of the local read.
 use Rattle.std.proofs.lemmas.Bool.{cond_both}
-use Rattle.std.proofs.Common.{◌<◌, ◌≤◌, ◌≡◌, ◌≢◌, ◌⊎◌, ⊎_elim, ℕ, ◌+◌, List, [], ◌∷◌, ◌++◌, true, refl, sym, ◌∙◌, subst, arith, inl, inr, ◌==◌, ◌&&◌, ◌||◌, not, max, min}
+use Rattle.std.proofs.Common.{◌<◌, ◌≤◌, ◌≡◌, ◌≢◌, ◌⊎◌, ⊎_elim, ℕ, List, [], ◌∷◌, true, refl, sym, ◌∙◌, subst, arith, inl, inr, ◌==◌, ◌&&◌, ◌||◌, not, max, min}
 use Rattle.std.proofs.Common.{length}
 use Rattle.std.specs.Prelude.{nat_lt}
 use Rattle.std.proofs.lemmas.Bool.{ltb-false, and_parts, or_parts, not-false}
 use Rattle.host_ids.specs.declared.entry.Entry.{Entry}
 use Rattle.host_ids.specs.declared.entry.Key.{Key}
-use Rattle.host_ids.specs.declared.entry.Batch.{Batch}
+use Rattle.raft_model.specs.declared.saved.SavedState.{SavedState}
 use Rattle.wire_codec.specs.declared.envelope.Envelope.{Envelope}
 use Rattle.wire_codec.specs.declared.envelope.Body.TheVariants as kinds
 use Rattle.raft_model.specs.declared.state.State.{State as Replica}
-use Rattle.raft_model.specs.declared.read.OpenRead.{OpenRead}
-use Rattle.raft_model.specs.Roster.{at}
+use Rattle.read_index.specs.declared.reads.OpenRead.{OpenRead}
+use Rattle.read_index.specs.Reads.{Reads, closed}
+use Rattle.roster.specs.Roster.{at}
 use Rattle.log_view.specs.Log.{last}
 use Rattle.raft_model.specs.Replica.{Row, quiet, is_leader, is_full, sent, in_term}
-use Rattle.raft_model.specs.Reading.{is_answered, confirmed, confirm, confirms, answers_round, beats, next_round, may_read, opened, open_read}
+use Rattle.raft_model.specs.Reading.{is_answered, confirmed, confirm, confirms, waits_on, answers_round, beats, next_round, may_read, opened, open_read}
 use Rattle.raft_model.specs.Group.{Group, seat}
 use Rattle.raft_safety.specs.History.{Reign, History, Agree, SameFrom, HoldsUpTo}
 use Rattle.raft_safety.specs.Replicas.{whole, of_replica}
@@ -31,9 +32,9 @@ use Rattle.raft_safety.proofs.Argument.WholeLogs.{whole_length}
 use Rattle.raft_safety.proofs.Frame.Roles.{leads}
 use Rattle.raft_safety.proofs.Argument.Decided.{same_reign}
 
-module _ {g : Group} {v : ℕ} {h : History} {b : Batch} {d : List Entry} {w : List Envelope} where
+module _ {g : Group} {v : ℕ} {h : History} {b : SavedState} {d : List Entry} {w : List Envelope} where
   -- a beat tells what its voter has matched of the commit index
-  beat_step : (u : ℕ) {r : Replica} → u ≢ v → Leads h g v b r d w → Leads h g v b (sent (seat g v) u (kinds.Beat (min (at r.matched u) r.commit) r.round) r) d w
+  beat_step : (u : ℕ) {r : Replica} → u ≢ v → Leads h g v b r d w → Leads h g v b (sent (seat g v) u (kinds.Beat (min (at r.matched u) r.commit) r.reads.round) r) d w
   beat_step u {r} other x =
       let o = x.open_group in
       let s = o.mine.stands in
@@ -51,7 +52,7 @@ module _ {g : Group} {v : ℕ} {h : History} {b : Batch} {d : List Entry} {w : L
         commit = agree_less c (omega arith) commit;
       } in
       record {
-        open_group = holding (record { from = v; to = u; group = g.number; term = r.term; body = kinds.Beat c r.round }) refl (
+        open_group = holding (record { from = v; to = u; group = g.number; term = r.term; body = kinds.Beat c r.reads.round }) refl (
           tells,
           ⊎_elim
               (λ none. inl (omega (arith, none)))
@@ -63,12 +64,12 @@ module _ {g : Group} {v : ℕ} {h : History} {b : Batch} {d : List Entry} {w : L
 
   -- a leader sends a beat to each other voter
   beats_step : {r : Replica} → Leads h g v b r d w → Leads h g v b (beats (seat g v) r) d w
-  beats_step {r} x = each_other_stays (λ q. Leads h g v b q d w) v (λ u q. sent (seat g v) u (kinds.Beat (min (at q.matched u) q.commit) q.round) q) (λ u q other y. beat_step u other y) g.voters r x
+  beats_step {r} x = each_other_stays (λ q. Leads h g v b q d w) v (λ u q. sent (seat g v) u (kinds.Beat (min (at q.matched u) q.commit) q.reads.round) q) (λ u q other y. beat_step u other y) g.voters r x
 
   -- rounds and open reads change nothing that the invariant speaks of
-  read_step : {r : Replica} (round : ℕ) (answered : List ℕ) (reads : List OpenRead) → Leads h g v b r d w → Leads h g v b (record r { round = round; answered = answered; reads = reads }) d w
-  read_step {r} round answered reads x = (let o = x.open_group in record {
-    open_group = rest_step (record (rest r) { round = round; answered = answered; reads = reads }) o o.mine.held o.mine.stands.candidate o.mine.stands.leader o.mine.inbox;
+  read_step : {r : Replica} (reads : Reads) → Leads h g v b r d w → Leads h g v b (record r { reads = reads }) d w
+  read_step {r} reads x = (let o = x.open_group in record {
+    open_group = rest_step (record (rest r) { reads = reads }) o o.mine.held o.mine.stands.candidate o.mine.stands.leader o.mine.inbox;
     role = x.role;
   })
 
@@ -84,27 +85,27 @@ module _ {g : Group} {v : ℕ} {h : History} {b : Batch} {d : List Entry} {w : L
   confirm_step (read ∷ more) x l =
       cond_both (is_answered (seat g v) x.replica read) _ _ (λ (z : Row). Leads h g v b z.replica d w)
       (λ _. confirm_step more (confirmed (seat g v) read x) (confirmed_step read x l))
-      (λ _. confirm_step more (record x { replica = record x.replica { reads = x.replica.reads ++ read ∷ [] } }) (read_step x.replica.round x.replica.answered (x.replica.reads ++ read ∷ []) l))
+      (λ _. confirm_step more (record x { replica = waits_on read x.replica }) (read_step (waits_on read x.replica).reads l))
 
   -- so for all open reads
   confirms_step : {r : Replica} → Leads h g v b r d w → Leads h g v b (confirms (seat g v) r).replica d w
-  confirms_step {r} l = confirm_step r.reads (quiet (record r { reads = [] })) (read_step r.round r.answered [] l)
+  confirms_step {r} l = confirm_step r.reads.waiting (quiet (record r { reads = closed r.reads })) (read_step (closed r.reads) l)
 
   -- a read is opened, with a round of beats of its own
   open_read_step : (key : Key) (origin : ℕ) {r : Replica} → Leads h g v b r d w → Leads h g v b (open_read (seat g v) key origin r).replica d w
   open_read_step key origin {r} l =
       confirms_step
-      (beats_step (read_step (r.round + 1) r.answered (opened key origin (next_round r)).reads l))
+      (beats_step (read_step (opened key origin (next_round r)).reads l))
 
 -- the script's beat keeps the invariant
 pub script_beat_kept : ScriptBeatRow
 script_beat_kept g v h b r d w some o =
     either_row (is_full r || not (is_leader r)) _ _ (λ _. reached o)
-    (λ e. reached (beats_step (read_step (r.round + 1) r.answered r.reads
+    (λ e. reached (beats_step (read_step (next_round r).reads
     (record { open_group = o; role = leads r (not-false (is_leader r) (or_parts (is_full r) (not (is_leader r)) e).1) }))).open_group)
 
 -- a leader that opens a read keeps the invariant
-reads_row : {g : Group} {v : ℕ} {h : History} {b : Batch} {r : Replica} {d : List Entry} {w : List Envelope} → Open h g v b r d w → is_leader r ≡ true → (key : Key) (origin : ℕ)
+reads_row : {g : Group} {v : ℕ} {h : History} {b : SavedState} {r : Replica} {d : List Entry} {w : List Envelope} → Open h g v b r d w → is_leader r ≡ true → (key : Key) (origin : ℕ)
     → Reached g v b d w (open_read (seat g v) key origin r).replica
 reads_row {g} {v} {h} {b} {r} {d} {w} o e key origin = reached (open_read_step key origin (record { open_group = o; role = leads r e })).open_group
 
@@ -127,11 +128,11 @@ beat_reply_kept m round g v h b r0 d w some before to on =
     let o : Open h g v b r d w = in_term_step m.term before in
     either_row ((m.term == r.term) && is_leader r) _ _
     (λ e. let l : Leads h g v b r d w = record { open_group = o; role = leads r (and_parts (m.term == r.term) (is_leader r) e).1 } in
-    reached (more_to_step m.from (confirms_step (read_step r.round (answers_round m.from round r).answered r.reads l))).open_group)
+    reached (more_to_step m.from (confirms_step (read_step (answers_round m.from round r).reads l))).open_group)
     (λ _. reached o)
 
 -- a follower, and a beat of the leader of its term
-module _ {g : Group} {v : ℕ} {h : History} {b : Batch} {r : Replica} {d : List Entry} {w : List Envelope} (o : Open h g v b r d w) {from c : ℕ} (x : IsOfLeader h d from r.term 0 0 c []) where
+module _ {g : Group} {v : ℕ} {h : History} {b : SavedState} {r : Replica} {d : List Entry} {w : List Envelope} (o : Open h g v b r d w) {from c : ℕ} (x : IsOfLeader h d from r.term 0 0 c []) where
   -- the reign that sent it
   abbrev R : Reign
   R = x.reign

@@ -5,12 +5,12 @@ use Rattle.std.specs.Prelude.{nat_lt, nat_le}
 use Rattle.std.proofs.lemmas.Bool.{cases_Bool, ltb-true, leb-true, lt-ltb, le-leb, eqb-true, and_parts, and_from, or_cases, or_left}
 use Rattle.std.proofs.lemmas.List.{length-take-le, take-take}
 use Rattle.host_ids.specs.declared.entry.Entry.{Entry}
-use Rattle.host_ids.specs.declared.entry.Batch.{Batch}
+use Rattle.raft_model.specs.declared.saved.SavedState.{SavedState}
 use Rattle.wire_codec.specs.declared.envelope.Envelope.{Envelope}
 use Rattle.raft_model.specs.declared.state.State.{State as Replica}
 use Rattle.raft_model.specs.declared.role.Role.TheVariants.{Leader}
 use Rattle.log_view.specs.Log.{last, term_at}
-use Rattle.raft_model.specs.Roster.{at, is_majority}
+use Rattle.roster.specs.Roster.{at, is_majority}
 use Rattle.raft_model.specs.Replica.{greatest, may_commit, commit_rule}
 use Rattle.raft_model.specs.Group.{Group, seat, continued, term_of}
 use Rattle.raft_safety.specs.History.{Reign, History, Agree, IsOwn, IsChosen, has_answered}
@@ -32,7 +32,7 @@ use Rattle.raft_safety.proofs.Frame.Settle.{Reached, reached, continued_none}
 use Rattle.raft_safety.proofs.Replication.Laying.{take_more}
 use Rattle.raft_safety.proofs.Replication.Matched.{hears, by_late, by_early, among}
 
-module _ {g : Group} {v : ℕ} {h : History} {b : Batch} {r : Replica} {d : List Entry} {w : List Envelope} (o : Open h g v b r d w) where
+module _ {g : Group} {v : ℕ} {h : History} {b : SavedState} {r : Replica} {d : List Entry} {w : List Envelope} (o : Open h g v b r d w) where
   module _ (leads : r.role ≡ Leader) where
     -- what is known of a leader
     abbrev l : IsLeader h d (HasAnswer w) v r

@@ -6,7 +6,7 @@ use Rattle.std.proofs.lemmas.List.{append_assoc}
 use Rattle.host_ids.specs.declared.entry.Entry.{Entry}
 use Rattle.host_ids.specs.declared.entry.Key.{Key}
 use Rattle.host_ids.specs.declared.proposal.Proposal.{Proposal}
-use Rattle.host_ids.specs.declared.entry.Batch.{Batch}
+use Rattle.raft_model.specs.declared.saved.SavedState.{SavedState}
 use Rattle.wire_codec.specs.declared.envelope.Envelope.{Envelope}
 use Rattle.raft_model.specs.declared.state.State.{State as Replica}
 use Rattle.raft_model.specs.declared.role.Role.TheVariants.{Leader, Candidate}
@@ -27,7 +27,7 @@ use Rattle.raft_safety.proofs.Frame.Opened.{SecuredBut, frame}
 use Rattle.raft_safety.proofs.Frame.Words.{Outlives, tells_on, all_on}
 use Rattle.raft_safety.proofs.Argument.WholeLogs.{whole_length, saved_less}
 use Rattle.raft_safety.proofs.Replication.Sending.{Leads}
-use Rattle.raft_model.specs.Roster.{at}
+use Rattle.roster.specs.Roster.{at}
 use Rattle.raft_safety.proofs.Frame.Tables.{at_pair, at_there, at_elsewhere}
 use Rattle.raft_safety.proofs.Argument.Decided.{same_reign}
 
@@ -125,7 +125,7 @@ matches_strict h d most X s n a b = let r = s n a b in (
   omega arith,
 )
 
-module _ {g : Group} {v : ℕ} {h : History} {b : Batch} {r : Replica} {d : List Entry} {w : List Envelope} (o : Leads h g v b r d w) (key : Key) (p : Proposal) where
+module _ {g : Group} {v : ℕ} {h : History} {b : SavedState} {r : Replica} {d : List Entry} {w : List Envelope} (o : Leads h g v b r d w) (key : Key) (p : Proposal) where
   -- what is known of the host's stages
   abbrev s : Stands h d (SecuredBut g v b) (HasAnswer w) v b r
   s = o.open_group.mine.stands

@@ -3,12 +3,12 @@ use Rattle.std.proofs.Common.{◌≡◌, ◌⊎◌, ⊎_elim, ℕ, ◌<◌, ◌�
 use Rattle.std.specs.Prelude.{nat_le}
 use Rattle.std.proofs.lemmas.Bool.{cases_eq, leb-true}
 use Rattle.host_ids.specs.declared.entry.Entry.{Entry}
-use Rattle.host_ids.specs.declared.entry.Batch.{Batch}
+use Rattle.raft_model.specs.declared.saved.SavedState.{SavedState}
 use Rattle.wire_codec.specs.declared.envelope.Envelope.{Envelope}
 use Rattle.wire_codec.specs.declared.envelope.Body.TheVariants as kinds
 use Rattle.raft_model.specs.declared.state.State.{State as Replica}
 use Rattle.raft_model.specs.declared.role.Role.TheVariants.{Leader}
-use Rattle.raft_model.specs.Roster.{at, is_majority}
+use Rattle.roster.specs.Roster.{at, is_majority}
 use Rattle.raft_model.specs.Group.{Group}
 use Rattle.raft_safety.specs.History.{Reign, History, IsLed, Agree, IsOwn, IsSafe, IsLate, IsEarly, IsOld}
 use Rattle.raft_safety.specs.Replicas.{IsLeader}
@@ -21,7 +21,7 @@ use Rattle.raft_safety.proofs.Frame.Growth.{old_less}
 use Rattle.raft_safety.proofs.Frame.Opened.{Open}
 use Rattle.raft_safety.proofs.Frame.Settle.{delivered}
 
-module _ {g : Group} {v : ℕ} {h : History} {b : Batch} {r : Replica} {d : List Entry} {w : List Envelope} (o : Open h g v b r d w) where
+module _ {g : Group} {v : ℕ} {h : History} {b : SavedState} {r : Replica} {d : List Entry} {w : List Envelope} (o : Open h g v b r d w) where
   -- what was answered on the wire is saved, or late
   pub heard_most : {u t i : ℕ} → HasAnswer w u t i → (i ≤ h.answer u t) ⊎ IsOld h d u t i
   heard_most {u} {t} {i} a =

@@ -1,7 +1,7 @@
 -- What a host has committed it may answer for in its term, whoever leads that.
 use Rattle.std.proofs.Common.{◌≡◌, ◌⊎◌, ⊎_elim, ℕ, ◌<◌, ◌≤◌, List, false, arith, inl, inr, refl}
 use Rattle.host_ids.specs.declared.entry.Entry.{Entry}
-use Rattle.host_ids.specs.declared.entry.Batch.{Batch}
+use Rattle.raft_model.specs.declared.saved.SavedState.{SavedState}
 use Rattle.wire_codec.specs.declared.envelope.Envelope.{Envelope}
 use Rattle.raft_model.specs.declared.state.State.{State as Replica}
 use Rattle.raft_model.specs.Group.{Group}
@@ -11,7 +11,7 @@ use Rattle.raft_safety.proofs.Argument.Agreement.{agree_less, le_or}
 use Rattle.raft_safety.proofs.Frame.Growth.{never_true}
 use Rattle.raft_safety.proofs.Frame.Opened.{Open}
 
-module _ {g : Group} {v : ℕ} {h : History} {b : Batch} {r : Replica} {d : List Entry} {w : List Envelope} (o : Open h g v b r d w) where
+module _ {g : Group} {v : ℕ} {h : History} {b : SavedState} {r : Replica} {d : List Entry} {w : List Envelope} (o : Open h g v b r d w) where
   -- in its term a host is in no quorum of a term above
   pub outside : (Q : Reign) → IsLed h.reigns Q → r.term < Q.term → Q.quorum v ≡ false
   outside Q led above = never_true (Q.quorum v) (λ yes.

@@ -5,7 +5,7 @@ use Rattle.std.proofs.lemmas.Bool.{and_parts}
 use Rattle.host_ids.specs.declared.entry.Entry.{Entry}
 use Rattle.host_ids.specs.declared.entry.Key.{Key}
 use Rattle.host_ids.specs.declared.proposal.Proposal.{Proposal}
-use Rattle.host_ids.specs.declared.entry.Batch.{Batch}
+use Rattle.raft_model.specs.declared.saved.SavedState.{SavedState}
 use Rattle.wire_codec.specs.declared.envelope.Envelope.{Envelope}
 use Rattle.raft_model.specs.declared.state.State.{State as Replica}
 use Rattle.raft_model.specs.Replica.{is_leader, is_full, appended_to_all}
@@ -19,7 +19,7 @@ use Rattle.raft_safety.proofs.Laws.Owed.{ProposeRow, LocalProposalRow}
 use Rattle.raft_safety.proofs.Frame.Roles.{leads}
 
 -- a leader appends an entry and sends it to the others
-pub appends : (key : Key) (p : Proposal) {g : Group} {v : ℕ} {h : History} {b : Batch} {r : Replica} {d : List Entry} {w : List Envelope} → Leads h g v b r d w
+pub appends : (key : Key) (p : Proposal) {g : Group} {v : ℕ} {h : History} {b : SavedState} {r : Replica} {d : List Entry} {w : List Envelope} → Leads h g v b r d w
     → Reached g v b d w (appended_to_all (seat g v) key p r)
 appends key p {g} {v} {h} {b} {r} {d} {w} x = reached (append_all_step (appended_step x key p)).open_group
 

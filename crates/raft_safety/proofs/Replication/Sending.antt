@@ -5,11 +5,11 @@ use Rattle.std.specs.Prelude.{nat_lt, nat_le}
 use Rattle.std.proofs.lemmas.Bool.{leb-true, ltb-true, and_parts}
 use Rattle.std.proofs.lemmas.List.{length-take, length-drop}
 use Rattle.host_ids.specs.declared.entry.Entry.{Entry}
-use Rattle.host_ids.specs.declared.entry.Batch.{Batch}
+use Rattle.raft_model.specs.declared.saved.SavedState.{SavedState}
 use Rattle.wire_codec.specs.declared.envelope.Envelope.{Envelope}
 use Rattle.raft_model.specs.declared.state.State.{State as Replica}
 use Rattle.raft_model.specs.declared.role.Role.TheVariants.{Leader}
-use Rattle.raft_model.specs.Roster.{at}
+use Rattle.roster.specs.Roster.{at}
 use Rattle.raft_model.specs.Replica.{append_to, each_other}
 use Rattle.raft_model.specs.Appending.{more_to}
 use Rattle.raft_model.specs.Group.{Group, seat, term_of}
@@ -23,11 +23,11 @@ use Rattle.raft_safety.proofs.Argument.Stretches.{drop_more, take_length}
 use Rattle.raft_safety.proofs.Argument.WholeLogs.{whole_length, whole_drop, term_whole}
 
 -- a leader's replica, at work
-pub record Leads (h : History) (g : Group) (v : ℕ) (b : Batch) (r : Replica) (d : List Entry) (w : List Envelope) : Type 0 where
+pub record Leads (h : History) (g : Group) (v : ℕ) (b : SavedState) (r : Replica) (d : List Entry) (w : List Envelope) : Type 0 where
   pub open_group : Open h g v b r d w
   pub role : r.role ≡ Leader
 
-module _ {g : Group} {v : ℕ} {h : History} {b : Batch} {d : List Entry} {w : List Envelope} where
+module _ {g : Group} {v : ℕ} {h : History} {b : SavedState} {d : List Entry} {w : List Envelope} where
   -- what a leader sends is a stretch of its reign's log, with a commit index that is decided
   of_leader : {r : Replica} → Leads h g v b r d w → (first : ℕ) → r.log.front < first → first ≤ last r.log + 1
       → IsOfLeader h d v r.term (first - 1) (term_at r.log (first - 1)) r.commit (slice r.log first 64)

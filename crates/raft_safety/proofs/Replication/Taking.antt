@@ -3,7 +3,7 @@ use Rattle.std.proofs.Common.{◌≡◌, ◌≢◌, ◌⊎◌, ⊎_elim, ℕ, �
 use Rattle.std.proofs.lemmas.Bool.{cases_eq, cases_order}
 use Rattle.std.proofs.lemmas.List.{length-drop}
 use Rattle.host_ids.specs.declared.entry.Entry.{Entry}
-use Rattle.host_ids.specs.declared.entry.Batch.{Batch}
+use Rattle.raft_model.specs.declared.saved.SavedState.{SavedState}
 use Rattle.wire_codec.specs.declared.envelope.Envelope.{Envelope}
 use Rattle.raft_model.specs.declared.state.State.{State as Replica}
 use Rattle.raft_model.specs.declared.role.Role.TheVariants.{Follower}
@@ -26,7 +26,7 @@ use Rattle.raft_safety.proofs.Argument.WholeLogs.{whole_of, saved_less}
 use Rattle.raft_safety.proofs.Frame.Tables.{at_pair, at_there, at_elsewhere}
 
 -- a log that a follower may take: what is committed, then the reign's log up to a place, and no less of the reign's log than before
-pub record CanTake (h : History) (b : Batch) (r : Replica) (d : List Entry) (R : Reign) (n : ℕ) (log : List Entry) (from stable : ℕ) : Type 0 where
+pub record CanTake (h : History) (b : SavedState) (r : Replica) (d : List Entry) (R : Reign) (n : ℕ) (log : List Entry) (from stable : ℕ) : Type 0 where
   -- the place is after the commit index, and within the log
   pub low : r.commit < n
   pub long : n ≤ length log
@@ -50,7 +50,7 @@ pub record CanTake (h : History) (b : Batch) (r : Replica) (d : List Entry) (R :
   pub tail : (from ≤ length log) ⊎ (((to_be_saved b r).front + length (to_be_saved b r).entries ≤ length log) ⊎ (r.taken.front ≢ r.log.front))
 
 -- a host in the term of a reign, which it comes to hold up to a place
-module _ {g : Group} {v : ℕ} {h : History} {b : Batch} {r : Replica} {d : List Entry} {w : List Envelope} (o : Open h g v b r d w) (R : Reign) (led : IsLed h.reigns R) (term : R.term ≡ r.term)
+module _ {g : Group} {v : ℕ} {h : History} {b : SavedState} {r : Replica} {d : List Entry} {w : List Envelope} (o : Open h g v b r d w) (R : Reign) (led : IsLed h.reigns R) (term : R.term ≡ r.term)
     (n : ℕ) (within : n ≤ length R.log) where
   -- the history in which the host holds the leader's log up to the place
   abbrev pub k : History

@@ -5,7 +5,7 @@ use Rattle.host_ids.specs.declared.entry.Batch.{Batch}
 use Rattle.host_ids.specs.declared.proposal.Proposal.TheVariants as proposals
 use Rattle.raft_model.specs.declared.state.State.{State as Replica}
 use Rattle.raft_model.specs.declared.state.Pending.{Pending}
-use Rattle.raft_model.specs.Roster.{Seat, at, is_set, is_majority}
+use Rattle.roster.specs.Roster.{Seat, at, is_set, is_majority}
 use Rattle.log_view.specs.Log.{last}
 use Rattle.raft_model.specs.Replica.{Row, quiet, is_leader, append_to, each_other, appended, no_key, crowned, lead, commit_rule}
 use Rattle.raft_model.specs.Voting.{granted_by}

@@ -3,7 +3,7 @@ use Rattle.std.proofs.lemmas.Bool.{and_parts}
 use Rattle.std.proofs.Common.{⊎_elim, inl, inr, ◌≡◌, ℕ, ◌+◌, ◌-◌, ◌≤◌, List, ◌++◌, length, take, drop, true, refl, sym, ap, ◌∙◌, subst, arith, inl, inr, Some, None, ◌&&◌, not}
 use Rattle.std.proofs.lemmas.List.{take-append-drop}
 use Rattle.host_ids.specs.declared.entry.Entry.{Entry}
-use Rattle.host_ids.specs.declared.entry.Batch.{Batch}
+use Rattle.raft_model.specs.declared.saved.SavedState.{SavedState}
 use Rattle.wire_codec.specs.declared.envelope.Envelope.{Envelope}
 use Rattle.raft_model.specs.declared.state.State.{State as Replica}
 use Rattle.raft_model.specs.declared.state.Pending.{Pending}
@@ -27,13 +27,13 @@ use Rattle.raft_safety.proofs.Frame.Settle.{reached}
 use Rattle.raft_safety.proofs.Laws.Owed.{ReadyRow}
 use Rattle.raft_safety.proofs.Argument.Agreement.{le_or}
 
-module _ {g : Group} {v : ℕ} {h : History} {b : Batch} {r : Replica} {d : List Entry} {w : List Envelope} (o : Open h g v b r d w) (may : may_give r ≡ true) where
+module _ {g : Group} {v : ℕ} {h : History} {b : SavedState} {r : Replica} {d : List Entry} {w : List Envelope} (o : Open h g v b r d w) (may : may_give r ≡ true) where
   -- the replica that has given its batch out
   abbrev q : Replica
   q = gave_batch r
 
   -- the state that is being saved
-  abbrev c : Batch
+  abbrev c : SavedState
   c = merged b (batch_of r)
 
   -- the history in which all that the host told is being saved
@@ -50,7 +50,7 @@ module _ {g : Group} {v : ℕ} {h : History} {b : Batch} {r : Replica} {d : List
 
   -- so what was to be saved is what is saved
   same_batch : to_be_saved b r ≡ b
-  same_batch = ap (λ p. elim p as (λ _. Batch) [ None ↦ b | Some x ↦ merged b x.batch ]) no_batch
+  same_batch = ap (λ p. elim p as (λ _. SavedState) [ None ↦ b | Some x ↦ merged b x.batch ]) no_batch
 
   -- the replica follows what is saved
   follows : Follows (of_batch d b) (of_replica d r)

@@ -2,7 +2,7 @@
 use Rattle.std.proofs.Common.{◌≡◌, ◌≢◌, ⊎_elim, ℕ, ◌-◌, ◌≤◌, List, ◌++◌, refl, sym, ap, ◌∙◌, subst, arith, inl, inr, Some, None}
 use Rattle.std.proofs.lemmas.Bool.{cases_eq}
 use Rattle.host_ids.specs.declared.entry.Entry.{Entry}
-use Rattle.host_ids.specs.declared.entry.Batch.{Batch}
+use Rattle.raft_model.specs.declared.saved.SavedState.{SavedState}
 use Rattle.wire_codec.specs.declared.envelope.Envelope.{Envelope}
 use Rattle.raft_model.specs.declared.state.State.{State as Replica}
 use Rattle.raft_model.specs.declared.state.Pending.{Pending}
@@ -31,10 +31,10 @@ secured_on {x} {y} f t c some s =
     (cases_eq x.term y.term))
     s
 
-module _ {g : Group} {v : ℕ} {h : History} {b : Batch} {r : Replica} {d : List Entry} {w : List Envelope} (p : Pending) (pending : r.pending ≡ Some p) (o : Open h g v b r d w) (es : List Envelope)
+module _ {g : Group} {v : ℕ} {h : History} {b : SavedState} {r : Replica} {d : List Entry} {w : List Envelope} (p : Pending) (pending : r.pending ≡ Some p) (o : Open h g v b r d w) (es : List Envelope)
     (part : (m : Envelope) → IsOnWire es m → IsOnWire p.envelopes m) where
   -- what is saved now
-  abbrev c : Batch
+  abbrev c : SavedState
   c = merged b p.batch
 
   -- the replica after the save
@@ -51,7 +51,7 @@ module _ {g : Group} {v : ℕ} {h : History} {b : Batch} {r : Replica} {d : List
 
   -- what was to be saved is what is saved now
   same_batch : to_be_saved b r ≡ c
-  same_batch = ap (λ x. elim x as (λ _. Batch) [ None ↦ b | Some y ↦ merged b y.batch ]) pending
+  same_batch = ap (λ x. elim x as (λ _. SavedState) [ None ↦ b | Some y ↦ merged b y.batch ]) pending
 
   -- what is saved now follows what was saved
   first : Follows (of_batch d b) (of_batch d c)
@@ -143,7 +143,7 @@ module _ {g : Group} {v : ℕ} {h : History} {b : Batch} {r : Replica} {d : List
           waiting = λ x e. let none : None ≡ Some x = e in absurd (cc);
           inbox = o.mine.inbox;
           covered = omega arith;
-          based = (let y : c.front_term ≡ term_of d c.front = subst (λ (x : Batch). x.front_term ≡ term_of d x.front) same_batch o.mine.based.1 in (y, y, o.mine.based.2));
+          based = (let y : c.front_term ≡ term_of d c.front = subst (λ (x : SavedState). x.front_term ≡ term_of d x.front) same_batch o.mine.based.1 in (y, y, o.mine.based.2));
         };
         told = λ m on from t.
             let up : (i : ℕ) → h.answer m.from i ≤ k.answer m.from i = λ i. subst (λ u. h.answer u i ≤ k.answer u i) (sym from) (grows.new_answer i) in

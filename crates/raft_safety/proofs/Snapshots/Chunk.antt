@@ -3,7 +3,7 @@ use Rattle.std.proofs.Common.{◌≡◌, ℕ, ◌+◌, ◌≤◌, List, true, fa
 use Rattle.std.specs.Prelude.{nat_lt, nat_le}
 use Rattle.std.proofs.lemmas.Bool.{leb-true, eqb-true, and_parts}
 use Rattle.host_ids.specs.declared.entry.Entry.{Entry}
-use Rattle.host_ids.specs.declared.entry.Batch.{Batch}
+use Rattle.raft_model.specs.declared.saved.SavedState.{SavedState}
 use Rattle.wire_codec.specs.declared.envelope.Envelope.{Envelope}
 use Rattle.wire_codec.specs.declared.envelope.Body.TheVariants as kinds
 use Rattle.raft_model.specs.declared.chunk.Chunk.{Chunk}
@@ -27,8 +27,8 @@ use Rattle.raft_safety.proofs.Laws.Owed.{SendChunkRow, ChunkRow, SnapReplyRow}
 use Rattle.raft_safety.proofs.Frame.Roles.{leads}
 
 -- the chunks in hand change, and the inbox, to a snapshot of decided places
-inbox_step : {g : Group} {v : ℕ} {h : History} {b : Batch} {r : Replica} {d : List Entry} {w : List Envelope} (assembly : List Chunk) (inbox : Option Inbox) → Open h g v b r d w
-    → ((s : Inbox) → inbox ≡ Some s → is_decided d s.index s.term ≡ true) → Open h g v b (record r { assembly = assembly; inbox = inbox }) d w
+inbox_step : {g : Group} {v : ℕ} {h : History} {b : SavedState} {r : Replica} {d : List Entry} {w : List Envelope} (assembly : List Chunk) (inbox : Option Inbox) → Open h g v b r d w
+    → ((s : Inbox) → inbox ≡ Some s → is_decided d s.received.index s.received.term ≡ true) → Open h g v b (record r { assembly = assembly; inbox = inbox }) d w
 inbox_step {r = r} assembly inbox o decided =
     let s = o.mine.stands in
     rest_step (record (rest r) { assembly = assembly; inbox = inbox }) o o.mine.held s.candidate s.leader decided
@@ -39,7 +39,7 @@ send_chunk_row to c g v h b r d w some o decided =
     reached (holding (record { from = v; to = to; group = g.number; term = c.term; body = kinds.SnapChunk c.index c.last_term c.number c.count c.size c.bytes }) refl decided o)
 
 -- a chunk of a decided place at one that doesn't lead
-module _ {g : Group} {v : ℕ} {h : History} {b : Batch} {r : Replica} {d : List Entry} {w : List Envelope} (o : Open h g v b r d w) (from : ℕ) (c : Chunk)
+module _ {g : Group} {v : ℕ} {h : History} {b : SavedState} {r : Replica} {d : List Entry} {w : List Envelope} (o : Open h g v b r d w) (from : ℕ) (c : Chunk)
     (decided : is_decided d c.index c.last_term ≡ true) where
   -- a chunk is taken in: more are asked for, or the snapshot is whole
   take_row : Reached g v b d w (after_take (seat g v) from c (taken r.assembly c) r)
@@ -47,13 +47,13 @@ module _ {g : Group} {v : ℕ} {h : History} {b : Batch} {r : Replica} {d : List
       let t = taken r.assembly c in
       elim t.whole as (λ x. Reached g v b d w (let q : Replica = elim x as (λ _. Replica) [
         | None ↦ sent (seat g v) from (kinds.SnapReply c.index t.want false) (record r { assembly = t.hand })
-        | Some bytes ↦ record r { assembly = t.hand; inbox = Some (record { index = c.index; term = c.last_term; bytes = bytes; sender = from; count = c.count }) }
+        | Some bytes ↦ record r { assembly = t.hand; inbox = Some (record { received = record { index = c.index; term = c.last_term; bytes = bytes }; sender = from; count = c.count }) }
       ] in q)) [
         | None ↦ reached (holding (record { from = v; to = from; group = g.number; term = r.term; body = kinds.SnapReply c.index t.want false }) refl (λ yes. absurd (cc))
             (inbox_step t.hand r.inbox o o.mine.inbox))
         | Some bytes ↦
-            let x : Inbox = record { index = c.index; term = c.last_term; bytes = bytes; sender = from; count = c.count } in
-            reached (inbox_step t.hand (Some x) o (λ s is. let same : x ≡ s = (let z : Some x ≡ Some s = is in cc) in subst (λ (y : Inbox). is_decided d y.index y.term ≡ true) same decided))
+            let x : Inbox = record { received = record { index = c.index; term = c.last_term; bytes = bytes }; sender = from; count = c.count } in
+            reached (inbox_step t.hand (Some x) o (λ s is. let same : x ≡ s = (let z : Some x ≡ Some s = is in cc) in subst (λ (y : Inbox). is_decided d y.received.index y.received.term ≡ true) same decided))
       ]
 
   -- a host that has committed the place says that it needs no more

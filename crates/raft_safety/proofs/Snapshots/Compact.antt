@@ -4,7 +4,7 @@ use Rattle.std.specs.Prelude.{nat_lt, nat_le}
 use Rattle.std.proofs.lemmas.Bool.{ltb-true, leb-true, and_parts}
 use Rattle.std.proofs.lemmas.List.{length-drop}
 use Rattle.host_ids.specs.declared.entry.Entry.{Entry}
-use Rattle.host_ids.specs.declared.entry.Batch.{Batch}
+use Rattle.raft_model.specs.declared.saved.SavedState.{SavedState}
 use Rattle.wire_codec.specs.declared.envelope.Envelope.{Envelope}
 use Rattle.raft_model.specs.declared.state.State.{State as Replica}
 use Rattle.raft_model.specs.Replica.{ripe}
@@ -30,7 +30,7 @@ cut_whole {d} l {i} up within a =
     let cut : drop (i - f) l.entries ≡ drop i X = ap (drop (i - f)) (sym (whole_drop d f l.entries (omega (arith, up, within)))) ∙ sym (drop_more f (i - f) X) ∙ ap (λ j. drop j X) place in
     ap (whole d i) cut ∙ whole_of d i l.entries within X a.same
 
-module _ {g : Group} {v : ℕ} {h : History} {b : Batch} {r : Replica} {d : List Entry} {w : List Envelope} (o : Open h g v b r d w) (i : ℕ) (above : r.log.front < i) (most : i ≤ r.commit)
+module _ {g : Group} {v : ℕ} {h : History} {b : SavedState} {r : Replica} {d : List Entry} {w : List Envelope} (o : Open h g v b r d w) (i : ℕ) (above : r.log.front < i) (most : i ≤ r.commit)
     (stable : i ≤ r.stable) where
   -- the replica with its log cut
   abbrev q : Replica

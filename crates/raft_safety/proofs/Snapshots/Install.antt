@@ -6,7 +6,7 @@ use Rattle.std.specs.Prelude.{nat_lt, nat_le}
 use Rattle.std.proofs.lemmas.Bool.{ltb-true, leb-true, le-leb, eqb-true, eq-eqb, and_parts}
 use Rattle.std.proofs.lemmas.List.{length-drop, length-take-le, append-nil, take-take}
 use Rattle.host_ids.specs.declared.entry.Entry.{Entry}
-use Rattle.host_ids.specs.declared.entry.Batch.{Batch}
+use Rattle.raft_model.specs.declared.saved.SavedState.{SavedState}
 use Rattle.wire_codec.specs.declared.envelope.Envelope.{Envelope}
 use Rattle.wire_codec.specs.declared.envelope.Body.TheVariants as kinds
 use Rattle.raft_model.specs.declared.role.Role.TheVariants.{Follower, Candidate, Leader}
@@ -36,7 +36,7 @@ abbrev pub started : Replica → Log → ℕ → ℕ → Replica
 started r log stable from = record r { log = log; commit = log.front; stable = stable; from = from }
 
 -- a log, whole with what is decided, that starts after a front past the commit index, and what of it counts as saved
-pub record CanStartAfter (h : History) (v : ℕ) (b : Batch) (r : Replica) (d : List Entry) (log : Log) (xs : List Entry) (stable from : ℕ) : Type 0 where
+pub record CanStartAfter (h : History) (v : ℕ) (b : SavedState) (r : Replica) (d : List Entry) (log : Log) (xs : List Entry) (stable from : ℕ) : Type 0 where
   pub is : whole d log.front log.entries ≡ xs
   pub above : r.commit < log.front
   pub front_term : log.front_term ≡ term_of d log.front
@@ -55,7 +55,7 @@ pub record CanStartAfter (h : History) (v : ℕ) (b : Batch) (r : Replica) (d : 
   pub on_disk : IsSavedTo stable (of_batch d b) (of_replica d (started r log stable from))
 
 -- such a log is taken, and all up to its front is committed
-module _ {g : Group} {v : ℕ} {h : History} {b : Batch} {r : Replica} {d : List Entry} {w : List Envelope} (o : Open h g v b r d w) (follower : r.role ≡ Follower)
+module _ {g : Group} {v : ℕ} {h : History} {b : SavedState} {r : Replica} {d : List Entry} {w : List Envelope} (o : Open h g v b r d w) (follower : r.role ≡ Follower)
     {log : Log} {xs : List Entry} {stable from : ℕ} (x : CanStartAfter h v b r d log xs stable from) where
   open x use {is, above, front_term, fits, matches, terms, keeps, holds, covers, stable_from, ends, saved, on_disk}
 
@@ -104,7 +104,7 @@ module _ {g : Group} {v : ℕ} {h : History} {b : Batch} {r : Replica} {d : List
       refl lives
 
 -- a decided place after the commit index
-module _ {g : Group} {v : ℕ} {h : History} {b : Batch} {r : Replica} {d : List Entry} {w : List Envelope} (o : Open h g v b r d w) (follower : r.role ≡ Follower) (i t : ℕ) (above : r.commit < i)
+module _ {g : Group} {v : ℕ} {h : History} {b : SavedState} {r : Replica} {d : List Entry} {w : List Envelope} (o : Open h g v b r d w) (follower : r.role ≡ Follower) (i t : ℕ) (above : r.commit < i)
     (decided : is_decided d i t ≡ true) where
   -- the host's whole log: the decided places up to its front, then its entries
   abbrev X : List Entry

@@ -52,8 +52,11 @@ up_last g h a p =
 
 -- it lasts where a batch is taken, or there is none to take
 ready_last : (g : Group) (h : ℕ) (o : Option Batch)
-    → Lasts g (elim o as (λ _. Acted) [ None ↦ Group.did g (notes.Idle ∷ []) | Some b ↦ Group.did (Group.moved g h (after_ready (replica_at g h)) []) (notes.Pending h b.id ∷ []) ])
-ready_last g h None = same_longer g.decided
+    → Lasts g (elim o as (λ _. Acted) [
+      | None ↦ Group.did (Group.moved g h (replica_at g h) []) (notes.Idle ∷ [])
+      | Some b ↦ Group.did (Group.moved g h (after_ready (replica_at g h)) []) (notes.Pending h b.id ∷ [])
+    ])
+ready_last g h None = continued_longer g.decided (replica_at g h)
 ready_last g h (Some b) = continued_longer g.decided (after_ready (replica_at g h))
 
 -- it lasts where a batch is handed back as saved, or isn't the pending one

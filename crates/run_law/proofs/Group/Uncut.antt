@@ -17,17 +17,18 @@ use Rattle.raft_model.specs.declared.input.Input.{Input}
 use Rattle.raft_model.specs.declared.input.Input.TheVariants as inputs
 use Rattle.raft_model.specs.declared.note.Note.TheVariants as notes
 use Rattle.raft_model.specs.declared.progress.Appended.TheVariants.{Stored}
-use Rattle.raft_model.specs.declared.read.OpenRead.{OpenRead}
 use Rattle.raft_model.specs.declared.role.Role.TheVariants.{Follower}
 use Rattle.raft_model.specs.declared.state.State.{State as Replica}
 use Rattle.raft_model.specs.declared.state.Pending.{Pending}
-use Rattle.raft_model.specs.Roster.{Seat, at, none_set}
+use Rattle.roster.specs.Roster.{Seat, at, none_set}
+use Rattle.read_index.specs.declared.reads.OpenRead.{OpenRead}
+use Rattle.read_index.specs.Reads.{closed}
 use Rattle.log_view.specs.Log.{Log, Laid, last, last_term, term_at, slice, laid, append_after, is_kept}
 use Rattle.raft_model.specs.Replica.{Row, fresh, quiet, notes_dropped, notes_idle, is_full, is_leader, may_release, sent, sent_in, each_other, append_to, appended, appended_to_all, no_key, crowned}
 use Rattle.raft_model.specs.Replica.{lead, in_term, commit_rule}
 use Rattle.raft_model.specs.Voting.{on_timeout, campaigned, asked_votes, on_vote_reply, with_grant, granted_by, has_won, counts, election}
 use Rattle.raft_model.specs.Appending.{Took as AppendTook, lacks, refused, stored, takes_append, answers_append, follows, on_append, more_to, progress, with_progress, heard, reached, on_append_reply}
-use Rattle.raft_model.specs.Reading.{on_beat, is_answered, confirmed, confirm, confirms, answers_round, then_more_to, on_beat_reply, beats, next_round, on_script_beat, may_read, opened, open_read}
+use Rattle.raft_model.specs.Reading.{on_beat, is_answered, waits_on, confirmed, confirm, confirms, answers_round, then_more_to, on_beat_reply, beats, next_round, on_script_beat, may_read, opened, open_read}
 use Rattle.raft_model.specs.Reading.{on_read_ask, on_ask}
 use Rattle.raft_model.specs.Proposing.{on_propose, on_local_proposal}
 use Rattle.raft_model.specs.Snapping.{taken, after_take, on_chunk, on_snap_reply}
@@ -72,7 +73,7 @@ to_all s key p r k = each s.me (append_to s) (appends_to s) s.voters (appended k
 
 -- a greater term that is taken over cuts no log
 entered : (t : ℕ) (r : Replica) → IsUncut r → IsUncut (in_term t r)
-entered t r k = pick_one (nat_lt r.term t) (record r { term = t; vote = 0; role = Follower; leader = 0; granted = none_set; reads = [] }) r k k
+entered t r k = pick_one (nat_lt r.term t) (record r { term = t; vote = 0; role = Follower; leader = 0; granted = none_set; reads = closed r.reads }) r k k
 
 -- what is of an older term is refused, and a leader takes nothing from another one
 takes_from : (old : Bool) (refusal : Row) (r : Replica) (w : Row) → IsUncut refusal.replica → IsUncut r → IsUncut w.replica
@@ -126,18 +127,18 @@ confirm_one s read w k =
 confirm_all : (s : Seat) (reads : List OpenRead) (w : Row) → IsUncut w.replica → IsUncut (confirm s reads w).replica
 confirm_all s [] w k = k
 confirm_all s (read ∷ rest) w k =
-    let waits : Row = record w { replica = record w.replica { reads = w.replica.reads ++ read ∷ [] } } in
+    let waits : Row = record w { replica = waits_on read w.replica } in
     pick (is_answered s w.replica read) (confirm s rest (confirmed s read w)) (confirm s rest waits) (confirm_all s rest (confirmed s read w) (confirm_one s read w k)) (confirm_all s rest waits k)
 
 -- the row of BeatReply cuts no log
 beat_reply : (s : Seat) (from t round : ℕ) (r : Replica) → IsUncut r → IsUncut (on_beat_reply s from t round r).replica
 beat_reply s from t round r k =
     let q = answers_round from round r in
-    pick ((t == r.term) && is_leader r) (then_more_to s from (confirms s q)) (quiet r) (more s from (confirms s q).replica (confirm_all s q.reads (quiet (record q { reads = [] })) k)) k
+    pick ((t == r.term) && is_leader r) (then_more_to s from (confirms s q)) (quiet r) (more s from (confirms s q).replica (confirm_all s q.reads.waiting (quiet (record q { reads = closed q.reads })) k)) k
 
 -- beats that are sent to the others cut no log
 beats_all : (s : Seat) (r : Replica) → IsUncut r → IsUncut (beats s r)
-beats_all s r k = each s.me (λ v q. sent s v (kinds.Beat (min (at q.matched v) q.commit) q.round) q) (λ v q a. a) s.voters r k
+beats_all s r k = each s.me (λ v q. sent s v (kinds.Beat (min (at q.matched v) q.commit) q.reads.round) q) (λ v q a. a) s.voters r k
 
 -- the row of the script's beat cuts no log
 script_beat : (s : Seat) (r : Replica) → IsUncut r → IsUncut (on_script_beat s r).replica
@@ -145,7 +146,7 @@ script_beat s r k = pick (is_full r || not (is_leader r)) (notes_idle r) (quiet 
 
 -- a read that opens cuts no log
 opens : (s : Seat) (key : Key) (origin : ℕ) (r : Replica) → IsUncut r → IsUncut (open_read s key origin r).replica
-opens s key origin r k = let q = opened key origin (next_round r) in let b = beats s q in confirm_all s b.reads (quiet (record b { reads = [] })) (beats_all s q k)
+opens s key origin r k = let q = opened key origin (next_round r) in let b = beats s q in confirm_all s b.reads.waiting (quiet (record b { reads = closed b.reads })) (beats_all s q k)
 
 -- the row of ReadAsk cuts no log
 read_ask : (s : Seat) (from : ℕ) (key : Key) (r : Replica) → IsUncut r → IsUncut (on_read_ask s from key r).replica
@@ -278,8 +279,11 @@ readies_on : (g : Group) (h : ℕ) → AreUncut g → AreUncut (readies g h).gro
 readies_on g h k =
     let r = replica_at g h in
     let given : AreUncut (moved g h (after_ready r) []) = written g.replicas h (after_ready r) k (pick_one (may_give r) (gave_batch r) r (k h) (k h)) in
-    elim (ready r) as (λ o. AreUncut (let a : Acted = elim o as (λ _. Acted) [ None ↦ did g (notes.Idle ∷ []) | Some b ↦ did (moved g h (after_ready r) []) (notes.Pending h b.id ∷ []) ] in a).group)
-    [ None ↦ k | Some b ↦ given ]
+    let stays : AreUncut (moved g h r []) = written g.replicas h r k (k h) in
+    elim (ready r) as (λ o. AreUncut (let a : Acted = elim o as (λ _. Acted) [
+      | None ↦ did (moved g h r []) (notes.Idle ∷ [])
+      | Some b ↦ did (moved g h (after_ready r) []) (notes.Pending h b.id ∷ [])
+    ] in a).group) [ None ↦ stays | Some b ↦ given ]
 
 -- all logs stay uncut where a batch is handed back as saved, or isn't the pending one
 saves_on : (g : Group) (h id : ℕ) → AreUncut g → AreUncut (saves_id g h id).group

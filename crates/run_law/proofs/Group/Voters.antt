@@ -28,7 +28,10 @@ up_stay g h a p =
 
 -- they stay where a batch is taken, or there is none to take
 ready_stay : (g : Group) (h : ℕ) (o : Option Batch)
-    → Stay g (elim o as (λ _. Acted) [ None ↦ Group.did g (notes.Idle ∷ []) | Some b ↦ Group.did (Group.moved g h (after_ready (replica_at g h)) []) (notes.Pending h b.id ∷ []) ])
+    → Stay g (elim o as (λ _. Acted) [
+      | None ↦ Group.did (Group.moved g h (replica_at g h) []) (notes.Idle ∷ [])
+      | Some b ↦ Group.did (Group.moved g h (after_ready (replica_at g h)) []) (notes.Pending h b.id ∷ [])
+    ])
 ready_stay g h None = refl
 ready_stay g h (Some b) = refl
 

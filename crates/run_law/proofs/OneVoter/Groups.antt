@@ -17,7 +17,7 @@ use Rattle.raft_model.specs.declared.event.LaneEvent.TheVariants as events
 use Rattle.raft_model.specs.declared.event.LaneFault.TheVariants as faults
 use Rattle.raft_model.specs.declared.note.Note.{Note}
 use Rattle.raft_model.specs.declared.note.Note.TheVariants as notes
-use Rattle.raft_model.specs.Roster.{Seat}
+use Rattle.roster.specs.Roster.{Seat}
 use Rattle.raft_model.specs.Replica.{fresh}
 use Rattle.raft_model.specs.Step.{Step, step, row, ready, after_ready, saved}
 use Rattle.raft_model.specs.Group
@@ -132,8 +132,13 @@ beat_onto h g l = at_voter_onto h Any g _ l (inputs_onto h Any g inputs.Beat l (
 
 -- a batch that is taken, or isn't there to take, moves the group onward
 ready_by : (h : ℕ) (g : Group) (o : Option Batch) → Lone h g
-    → Onto h Any g (elim o as (λ _. Acted) [ None ↦ Group.did g (notes.Idle ∷ []) | Some b ↦ Group.did (Group.moved g h (after_ready (replica_at g h)) []) (notes.Pending h b.id ∷ []) ])
-ready_by h g None l = same_onto h Any g _ l refl tt
+    → Onto h Any g (elim o as (λ _. Acted) [
+      | None ↦ Group.did (Group.moved g h (replica_at g h) []) (notes.Idle ∷ [])
+      | Some b ↦ Group.did (Group.moved g h (after_ready (replica_at g h)) []) (notes.Pending h b.id ∷ [])
+    ])
+ready_by h g None l =
+    let s : Step = record { replica = replica_at g h; notes = notes.Idle ∷ []; sent = [] } in
+    moved_lone h Any g s l (record { onward = same_onward (replica_at g h) l.sound; notes = tt; sent = refl })
 ready_by h g (Some b) l =
     let s : Step = record { replica = after_ready (replica_at g h); notes = notes.Pending h b.id ∷ []; sent = [] } in
     moved_lone h Any g s l (record { onward = ready_onward (replica_at g h) l.sound; notes = tt; sent = refl })

@@ -9,7 +9,7 @@ use Rattle.wire_codec.specs.declared.envelope.Envelope.{Envelope}
 use Rattle.raft_model.specs.declared.state.State.{State as Replica}
 use Rattle.raft_model.specs.declared.state.Pending.{Pending}
 use Rattle.raft_model.specs.declared.note.Note.{Note}
-use Rattle.raft_model.specs.Roster.{Seat}
+use Rattle.roster.specs.Roster.{Seat}
 use Rattle.raft_model.specs.Replica.{Row, quiet, notes_idle, is_leader, is_full, may_release, own_entry, appended, fresh}
 use Rattle.raft_model.specs.Voting.{campaigned, asked_votes}
 use Rattle.raft_model.specs.Reading.{beats, next_round}
@@ -33,7 +33,7 @@ pub record Sound (r : Replica) : Type 0 where
   pub stable : r.stable < r.from
   pub from : r.from ≤ length r.log.entries + 1
   pub leader : (is_leader r ≡ true) ⊎ (r.leader ≡ 0)
-  pub reads : r.reads ≡ []
+  pub reads : r.reads.waiting ≡ []
   pub held : r.held ≡ []
   pub pending : Pends r.stable r.pending
 

@@ -34,14 +34,14 @@ propose_rowed number h key p r s =
 
 -- a replica that has confirmed a read
 abbrev confirmed : Replica → Replica
-confirmed r = record r { round = r.round + 1; reads = [] }
+confirmed r = record r { reads = record r.reads { round = r.reads.round + 1; waiting = [] } }
 
 -- a sound replica that has confirmed a read is sound
 confirmed_sound : (r : Replica) → Sound r → Sound (confirmed r)
 confirmed_sound r q = record { front = q.front; commit = q.commit; stable = q.stable; from = q.from; leader = q.leader; reads = refl; held = q.held; pending = q.pending }
 
 -- a read that opens is confirmed at once
-open_is : (number h : ℕ) (key : Key) (r : Replica) → r.reads ≡ [] → open_read (own_seat number h) key h r ≡ record { replica = confirmed r; notes = notes.Confirmed h key r.commit ∷ [] }
+open_is : (number h : ℕ) (key : Key) (r : Replica) → r.reads.waiting ≡ [] → open_read (own_seat number h) key h r ≡ record { replica = confirmed r; notes = notes.Confirmed h key r.commit ∷ [] }
 open_is number h key r e = rw (eq-eqb h h refl, e, eq-eqb h h refl) refl
 
 -- the row of the local read goes onward, and the read is dropped, or confirmed at the commit index

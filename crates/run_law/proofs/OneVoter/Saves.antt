@@ -6,7 +6,7 @@ use Rattle.host_ids.specs.declared.entry.Batch.{Batch}
 use Rattle.host_ids.specs.declared.proposal.Proposal.TheVariants as proposals
 use Rattle.raft_model.specs.declared.state.State.{State as Replica}
 use Rattle.raft_model.specs.declared.state.Pending.{Pending}
-use Rattle.raft_model.specs.Roster.{at, is_majority}
+use Rattle.roster.specs.Roster.{at, is_majority}
 use Rattle.log_view.specs.Log.{Log, last}
 use Rattle.raft_model.specs.Replica.{Row, quiet, is_leader, greatest, may_commit, commit_rule, crowned, lead, no_key}
 use Rattle.raft_model.specs.Voting.{election, with_grant, has_won, granted_by}

@@ -1,7 +1,7 @@
 use Rattle.std.proofs.Common.{◌≡◌, ◌≤◌, drop, false, true, []}
 use Rattle.std.specs.List.{list_all}
 use Rattle.run_model.specs.Script.{roster_on}
-use Rattle.script_run.specs.Fit.{is_host}
+use Rattle.wire_codec.specs.Grammar.{is_host}
 use Rattle.script_run.proofs.grammar.hosts_of.Given as goal
 
 abbrev pub invariant-loop-byte : goal.invariant-loop-byte

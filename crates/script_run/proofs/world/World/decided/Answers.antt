@@ -10,4 +10,4 @@ short_front n es some e l =
     e ∙ take_all n es (omega (arith, m, l))
 
 pub returns : goal.returns
-returns c = short_front 18446744073709551615 c.args.self.now.lane.decided c.in_ok-decided.decided c.in_ok-decided.ensures (omega (arith, c.count_of.ensures))
+returns c = short_front 18446744073709551615 c.args.self.now.lane.group.decided c.in_ok-decided.decided c.in_ok-decided.ensures (omega (arith, c.count_of.ensures))

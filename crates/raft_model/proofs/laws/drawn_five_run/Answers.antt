@@ -1,5 +1,0 @@
-use Rattle.raft_model.proofs.Computed.{drawn_five_notes, drawn_five_decided, drawn_five_replicas, drawn_five_sent}
-use Rattle.raft_model.proofs.laws.drawn_five_run.Goals as goal
-
-pub returns : goal.returns
-returns c = record { notes = drawn_five_notes; decided = drawn_five_decided; replicas = drawn_five_replicas; sent = drawn_five_sent }

@@ -1,5 +1,0 @@
-use Rattle.raft_model.proofs.Computed.{minority_notes, minority_decided, minority_replicas, minority_sent}
-use Rattle.raft_model.proofs.laws.minority_run.Goals as goal
-
-pub returns : goal.returns
-returns c = record { notes = minority_notes; decided = minority_decided; replicas = minority_replicas; sent = minority_sent }

@@ -1,0 +1,12 @@
+pub mod Runs
+pub mod Followed
+pub mod Minority
+pub mod Repeated
+pub mod Deposed
+pub mod Lagging
+pub mod Crashed
+pub mod Installed
+pub mod DrawnThree
+pub mod DrawnFive
+pub mod DrawnApart
+pub mod Witness

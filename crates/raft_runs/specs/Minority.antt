@@ -1,0 +1,63 @@
+-- Written by `python3 tools/raft_runs/write_runs.py`, and then laid out by `rt fmt`. Not to be edited by hand.
+-- A proposal that one of three has saved: it isn't decided.
+use Rattle.std.specs.Prelude.{List, [], ◌∷◌, codes, true}
+use Rattle.host_ids.specs.declared.entry.Entry.{Entry}
+use Rattle.host_ids.specs.declared.proposal.Proposal.TheVariants as proposals
+use Rattle.wire_codec.specs.declared.envelope.Envelope.{Envelope}
+use Rattle.wire_codec.specs.declared.envelope.Body.TheVariants as kinds
+use Rattle.raft_model.specs.declared.event.LaneEvent.{LaneEvent}
+use Rattle.raft_model.specs.declared.event.LaneEvent.TheVariants as events
+use Rattle.raft_model.specs.declared.note.Note.{Note}
+use Rattle.raft_model.specs.declared.note.Note.TheVariants as notes
+use Rattle.raft_model.specs.declared.role.Role.TheVariants as roles
+use Rattle.raft_model.specs.Group.{Group, fresh_group}
+use Rattle.raft_model.specs.Replica.{no_key}
+use Rattle.raft_runs.specs.Runs.{Digest, key, entry, post}
+
+-- the events
+abbrev pub events_of : List LaneEvent
+events_of =
+    events.Timeout 1 ∷ events.Ready 1 ∷ events.Saved 1 1 ∷ events.Deliver 1 ∷
+    events.Deliver 2 ∷ events.Ready 2 ∷ events.Saved 2 1 ∷ events.Ready 3 ∷
+    events.Saved 3 1 ∷ events.Deliver 3 ∷ events.Deliver 4 ∷ events.Ready 1 ∷
+    events.Saved 1 2 ∷ events.Deliver 5 ∷ events.Deliver 6 ∷ events.Ready 2 ∷
+    events.Saved 2 2 ∷ events.Ready 3 ∷ events.Saved 3 2 ∷ events.Deliver 7 ∷
+    events.Deliver 8 ∷ events.Ready 1 ∷ events.Saved 1 3 ∷ events.Propose 1 (key 1 1 1) (proposals.Plain (codes "put x 1")) ∷
+    events.Ready 1 ∷ events.Saved 1 4 ∷
+    []
+
+-- a group that has just begun
+abbrev pub begun : Group
+begun =
+    fresh_group 1 (1 ∷ 2 ∷ 3 ∷ [])
+
+-- what they tell
+abbrev pub notes_of : List Note
+notes_of =
+    notes.Pending 1 1 ∷ notes.Pending 2 1 ∷ notes.Pending 3 1 ∷ notes.Leader 1 1 ∷ notes.Pending 1 2 ∷ notes.Pending 2 2 ∷
+    notes.Pending 3 2 ∷ notes.Pending 1 3 ∷ notes.Pending 1 4 ∷
+    []
+
+-- what is decided
+abbrev pub decided_of : List Entry
+decided_of =
+    entry 1 1 no_key proposals.Blank ∷
+    []
+
+-- how the replicas stand
+abbrev pub replicas_of : List Digest
+replicas_of =
+    record { term = 1; vote = 1; role = roles.Leader; leader = 1; commit = 1; front = 0; stable = 2; from = 3; round = 0; held = 0; terms = 1 ∷ 1 ∷ []; matched = 2 ∷ 1 ∷ 1 ∷ []; next = 1 ∷ 2 ∷ 2 ∷ []; answered = 0 ∷ 0 ∷ 0 ∷ [] } ∷
+    record { term = 1; vote = 1; role = roles.Follower; leader = 1; commit = 0; front = 0; stable = 1; from = 2; round = 0; held = 0; terms = 1 ∷ []; matched = 0 ∷ 0 ∷ 0 ∷ []; next = 0 ∷ 0 ∷ 0 ∷ []; answered = 0 ∷ 0 ∷ 0 ∷ [] } ∷
+    record { term = 1; vote = 1; role = roles.Follower; leader = 1; commit = 0; front = 0; stable = 1; from = 2; round = 0; held = 0; terms = 1 ∷ []; matched = 0 ∷ 0 ∷ 0 ∷ []; next = 0 ∷ 0 ∷ 0 ∷ []; answered = 0 ∷ 0 ∷ 0 ∷ [] } ∷
+    []
+
+-- what was sent
+abbrev pub wire_of : List Envelope
+wire_of =
+    post 1 2 1 (kinds.Vote 0 0) ∷ post 1 3 1 (kinds.Vote 0 0) ∷
+    post 2 1 1 (kinds.VoteReply true) ∷ post 3 1 1 (kinds.VoteReply true) ∷
+    post 1 2 1 (kinds.Append 0 0 0 (entry 1 1 no_key proposals.Blank ∷ [])) ∷ post 1 3 1 (kinds.Append 0 0 0 (entry 1 1 no_key proposals.Blank ∷ [])) ∷
+    post 2 1 1 (kinds.AppendReply true 1) ∷ post 3 1 1 (kinds.AppendReply true 1) ∷
+    post 1 2 1 (kinds.Append 1 1 1 (entry 2 1 (key 1 1 1) (proposals.Plain (codes "put x 1")) ∷ [])) ∷ post 1 3 1 (kinds.Append 1 1 1 (entry 2 1 (key 1 1 1) (proposals.Plain (codes "put x 1")) ∷ [])) ∷
+    []

@@ -1,6 +1,0 @@
-use Rattle.std.proofs.Common.{◌≡◌, ◌≤◌, ◌+◌, drop}
-use Rattle.raft_model.specs.Roster.{is_set, count}
-use Rattle.raft_vote.proofs.vote.granted_count.Given as goal
-
-abbrev pub invariant-loop-voter : goal.invariant-loop-voter
-invariant-loop-voter l = (l.number + count (is_set l.set) (drop l.voter-index l.voters) ≡ count (is_set l.set) l.voters) × (l.number ≤ l.voter-index)

@@ -1,0 +1,96 @@
+"""Makes scripts: drawn ones by a seed, and named ones that load a program.
+
+    python3 scripts.py drawn SEED PLAIN   a drawn script; PLAIN is the built plain program
+    python3 scripts.py follower N         three voters, N commands at a follower, settled by hundreds
+    python3 scripts.py single N           one voter, N puts and N reads, settled by hundreds
+    python3 scripts.py asks N             one voter, N commands, then a settle
+    python3 scripts.py unsaved N V        V voters, N commands at the leader, then its save
+    python3 scripts.py comments N         N comments of 4,096 bytes
+
+A script goes to standard output. The same seed gives the same script again.
+"""
+
+import random
+import sys
+
+from drawing import Drawing
+
+
+def election(size, limit=""):
+    """A group of hosts 1 to so many, of which the first is elected."""
+    voters = range(1, size + 1)
+    for host in voters:
+        yield "host %d" % host
+    yield "group 1 regular %s%s" % (",".join(map(str, voters)), limit)
+    yield "timeout 1 1"
+    yield "settle 1"
+
+
+def follower(count):
+    yield from election(3)
+    for number in range(1, count + 1):
+        yield "ask 2 1 c%d add n 1" % number
+        if number % 100 == 0:
+            yield "settle 1"
+    yield "end"
+
+
+def single(count):
+    yield from election(1)
+    for number in range(1, count + 1):
+        yield "ask 1 1 p%d put k%d v%d" % (number, number % 5000, number)
+        yield "read 1 1 r%d get k%d" % (number, number * 7 % 5000)
+        if number % 100 == 0:
+            yield "settle 1"
+    yield "settle 1"
+    yield "end"
+
+
+def asks(count):
+    yield from election(1)
+    for number in range(1, count + 1):
+        yield "ask 1 1 c%d add n 1" % number
+    yield "settle 1"
+    yield "end"
+
+
+def unsaved(count, size):
+    yield from election(size)
+    for number in range(1, count + 1):
+        yield "ask 1 1 c%d put k%d v%d" % (number, number % 5000, number)
+    yield "save 1 1"
+    yield "end"
+
+
+def comments(count):
+    for _ in range(count):
+        yield "#" * 4096
+    yield "end"
+
+
+def drawn(seed, plain):
+    """The bytes of a drawn script."""
+    drawing = Drawing(random.Random("script %d" % seed), plain)
+    try:
+        return drawing.draw()
+    finally:
+        drawing.stop()
+
+
+LOADS = {"follower": (follower, 1), "single": (single, 1), "asks": (asks, 1),
+         "unsaved": (unsaved, 2), "comments": (comments, 1)}
+
+
+def main(words):
+    if len(words) == 3 and words[0] == "drawn":
+        sys.stdout.buffer.write(drawn(int(words[1]), words[2]))
+        return
+    load, numbers = LOADS.get(words[0] if words else "", (None, 0))
+    if load is None or len(words) != numbers + 1:
+        raise SystemExit(__doc__)
+    for line in load(*map(int, words[1:])):
+        sys.stdout.write(line + "\n")
+
+
+if __name__ == "__main__":
+    main(sys.argv[1:])

@@ -19,7 +19,8 @@ SCRIPTS = os.path.join(HERE, "scripts.py")
 KEPT = "difference.script"
 SECONDS = 120
 LOADS = ["follower 38000", "follower 60000", "single 60000", "asks 100000", "asks 199999",
-         "unsaved 60000 7", "unsaved 100000 3", "comments 20000"]
+         "unsaved 60000 7", "unsaved 100000 3", "unsaved 199999 3", "unsaved 199999 7",
+         "older 50000", "older 100000", "comments 20000"]
 TIMES = 3
 
 

@@ -5,6 +5,8 @@
     python3 scripts.py single N           one voter, N puts and N reads, settled by hundreds
     python3 scripts.py asks N             one voter, N commands, then a settle
     python3 scripts.py unsaved N V        V voters, N commands at the leader, then its save
+    python3 scripts.py older N            three voters, N commands that nobody else gets, and then a new
+                                          term, in whose settles the others catch up
     python3 scripts.py comments N         N comments of 4,096 bytes
 
 A script goes to standard output. The same seed gives the same script again.
@@ -62,6 +64,20 @@ def unsaved(count, size):
     yield "end"
 
 
+def older(count):
+    yield from election(3)
+    for number in range(1, count + 1):
+        yield "ask 1 1 c%d put k%d v%d" % (number, number % 5000, number)
+    yield "save 1 1"
+    yield "lose 1"
+    yield "timeout 1 1"
+    for _ in range(count // 64 // 32 + 2):
+        yield "settle 1"
+        yield "beat 1 1"
+    yield "settle 1"
+    yield "end"
+
+
 def comments(count):
     for _ in range(count):
         yield "#" * 4096
@@ -78,7 +94,7 @@ def drawn(seed, plain):
 
 
 LOADS = {"follower": (follower, 1), "single": (single, 1), "asks": (asks, 1),
-         "unsaved": (unsaved, 2), "comments": (comments, 1)}
+         "unsaved": (unsaved, 2), "older": (older, 1), "comments": (comments, 1)}
 
 
 def main(words):

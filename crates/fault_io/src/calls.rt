@@ -15,7 +15,7 @@ pub(crate) struct Calls {
 }
 
 impl Calls {
-    /// No call was made yet, and the listed ones will fail. The only error is want of memory.
+    /// No call was made yet, and the listed ones will fail. The only error is `NoMemory`.
     pub(crate) fn new(alloc: Global, failing: &[u64]) -> Result<Calls, NoMemory>
         ensures made { IfOk result (λ calls. calls.made ≡ 0) }
         ensures failing { IfOk result (λ calls. calls.failing.items ≡ failing.now) }

@@ -42,7 +42,7 @@ impl MemSource {
     /// 1, fail.
     ///
     /// The order of the list does not matter, and a number may stand twice. Neither a call nor a
-    /// fault is counted yet. The only error is want of memory.
+    /// fault is counted yet. The only error is `NoMemory`.
     pub fn new(alloc: Global, bytes: &[u8], failing: &[u64]) -> Result<MemSource, NoMemory>
         ensures bytes { IfOk result (λ source. source_bytes source ≡ bytes.now) }
         ensures calls { IfOk result (λ source. source_calls source ≡ 0) }
@@ -114,7 +114,7 @@ impl MemSink {
     /// from 1, fail.
     ///
     /// The order of the list does not matter, and a number may stand twice. Neither a call nor a
-    /// fault is counted yet. The only error is want of memory.
+    /// fault is counted yet. The only error is `NoMemory`.
     pub fn new(alloc: Global, failing: &[u64]) -> Result<MemSink, NoMemory>
         ensures bytes { IfOk result (λ sink. sink_bytes sink ≡ []) }
         ensures calls { IfOk result (λ sink. sink_calls sink ≡ 0) }
@@ -147,7 +147,7 @@ impl Sink for MemSink {
     ///
     /// `Failed` comes exactly where the number of this call is listed; calls past 2^64-1 have that
     /// number. Then nothing is written, and the count of faults rises by one unless it stands at
-    /// 2^64-1. At a call that is not listed, the only error is want of memory. It is no fault:
+    /// 2^64-1. At a call that is not listed, the only error is `NoMemory`. It is no fault:
     /// nothing is written, and no count but that of the calls changes. The list stays.
     fn put(&mut self, piece: &[u8]) -> Result<usize, IoFault>
         ensures bound { WritesAtMost result piece.now }

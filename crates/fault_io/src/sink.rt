@@ -18,7 +18,7 @@ pub trait Sink {
     /// How many faults there have been, from 0 to 2^64-1, where it stays.
     ghost fault_count: { Self → ℕ };
 
-    /// Writes a front of the piece behind what was written, and says how many bytes that are.
+    /// Writes a front of the piece after what was written, and says how many bytes that are.
     ///
     /// It may take fewer than the whole, but of a piece that is not empty it takes at least one.
     /// At `Failed` and at `NoMemory` it has written nothing. The count of faults never falls, and

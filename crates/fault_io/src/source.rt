@@ -24,7 +24,7 @@ pub trait Source {
     ///
     /// It may move fewer than there is room for. Into a buffer that is not empty it answers 0 at
     /// the end and nowhere else, and at the end nothing else but 0 or an error. What stands in
-    /// `into` behind the bytes moved is not told. At `Failed` and at `NoMemory` nothing has moved:
+    /// `into` after the bytes moved is not told. At `Failed` and at `NoMemory` nothing has moved:
     /// what is left stays, and `into` holds nothing that counts. The count of faults never falls,
     /// and `Failed` comes only where it rose in this call, or stands at 2^64-1.
     fn take(&mut self, into: &mut [u8]) -> Result<usize, IoFault>

@@ -3,7 +3,7 @@ ghost use Rattle.std.specs.Prelude.{Some};
 use crate::{IoFault, MemSink, MemSource, Sink, Source, StdSink, StdSource, put_all};
 use std::test::Fail;
 
-/// A sink that takes one byte a call, and never fails but for want of memory.
+/// A sink that takes one byte a call, and never fails but for out of memory.
 #[derive(Drop)]
 struct ByteSink {
     written: Vec<u8>,

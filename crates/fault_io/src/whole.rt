@@ -5,7 +5,7 @@ ghost use Rattle.fault_io.specs.Faults.{HasCause, WritesFront};
 use crate::fault::IoFault;
 use crate::sink::Sink;
 
-/// Writes all the bytes in order behind what was written, in as many calls as the sink needs.
+/// Writes all the bytes in order after what was written, in as many calls as the sink needs.
 ///
 /// The error is that of the first call that did not answer Ok, and no call follows it: then a front
 /// of the bytes is written, which may be none or all but the last. The count of faults never

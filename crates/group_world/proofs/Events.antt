@@ -5,7 +5,7 @@ use Rattle.std.proofs.lemmas.Bool.Decides.{nat_tests}
 use Rattle.std.specs.Prelude.{not, ◌==◌, ◌||◌, slice_index_or, slice_set}
 use Rattle.std.specs.Option.{option_map}
 use Rattle.std.specs.List.{All, list_any}
-use Rattle.host_ids.specs.declared.entry.Batch.{Batch}
+use Rattle.host_ids.specs.declared.batch.Batch.{Batch}
 use Rattle.host_ids.specs.declared.entry.Entry.{Entry}
 use Rattle.raft_model.specs.declared.event.LaneFault.TheVariants as faults
 use Rattle.raft_model.specs.declared.note.Note.TheVariants as notes

@@ -21,7 +21,7 @@ use crate::make::begin;
 use crate::moves::range_of;
 use crate::refusals::{envelope_of, refusal, some_replica};
 use crate::world::World;
-use host_ids::{Batch, Entries, NoMemory};
+use host_ids::{Batch, Entries, Entry, NoMemory};
 use raft_core::{LaneEvent, LaneFault, Note, Received, Role};
 use raft_safety::{runs_as_one, runs_go_on};
 use std::alloc::Global;
@@ -34,7 +34,7 @@ use wire_codec::Envelope;
 /// Clauses see it as the group of the definitions, and whether it is faithful: whether every event that
 /// it acted on was one that honest disks and honest snapshots may lead to, and memory never ran out. Of a
 /// faithful lane it is a fact of this type that a list of allowed events led to it from a group that has
-/// just begun, so what holds after every such list holds of it. After want of memory nothing of the group
+/// just begun, so what holds after every such list holds of it. After `NoMemory` nothing of the group
 /// is left but its number: it has no voters, so from then on each event is refused.
 /// Source: dissertation chapter 3; the wire that keeps every envelope, what is saved when, and the
 /// refusals are this project's own.
@@ -67,7 +67,7 @@ impl Lane {
     /// `NoMemory`; then nothing of the group is left but its number, and the lane isn't faithful (`lost`).
     ///
     /// Of an event that isn't refused it is asked: a proposal is no blank, and it and each key have a
-    /// spelling; a piece goes to another voter and has a spelling, its term is from 1 to its host's and its
+    /// spelling; a piece goes to another voter and is well formed, its term is from 1 to its host's and its
     /// index at most 2^62; an Installed names the received snapshot, which is past the commit index, at a
     /// follower. A host that is down can't be started again yet.
     ///
@@ -154,6 +154,13 @@ impl Lane {
     {
         let some = range_of(&self.world.decided, (index - 1) as usize, most as usize);
         Entries::from_slice(*self.world.decided.allocator(), some)
+    }
+
+    /// The decided list.
+    pub fn decided(&self) -> &[Entry]
+        ensures { result.now ≡ self.now.group.decided }
+    {
+        self.world.decided.as_slice()
     }
 
     /// The pending batch of a host, a voter, if it has one.
@@ -277,10 +284,21 @@ impl Lane {
         ensures entries { IfOk result (λ entries. entries ≡ slice (replica_at self.now.group host).log first most) }
         ensures fit { IfOk result (λ entries. are_fit entries ≡ true) }
     {
+        let alloc = self.world.wire.alloc();
+        Entries::from_slice(alloc, self.entry_slice(host, first, most))
+    }
+
+    /// The same entries as `entries` answers, lent.
+    pub fn entry_slice(&self, host: u8, first: u64, most: u64) -> &[Entry]
+        requires behind { (replica_at self.now.group host).log.front < first }
+        requires within { first ≤ last (replica_at self.now.group host).log + 1 }
+        ensures entries { result.now ≡ slice (replica_at self.now.group host).log first most }
+        ensures fit { are_fit result.now ≡ true }
+    {
         have_fit_numbers(&self.world, host, first, most);
         match some_replica(&self.world, host) {
-            None => Ok(Entries::new(self.world.wire.alloc())),
-            Some(replica) => replica.log().slice(first, most),
+            None => &[],
+            Some(replica) => replica.log().some(first, most),
         }
     }
 

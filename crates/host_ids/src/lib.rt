@@ -1,7 +1,9 @@
-//! The plain types that every layer names: want of memory, texts, keys, proposals, entries,
+//! The plain types that every layer names: out of memory, texts, keys, proposals, entries,
 //! batches, kinds of machines and verdicts.
 #![tactic(auto)]
 
+mod batch;
+mod entries;
 mod entry;
 mod kind;
 mod memory;
@@ -9,7 +11,9 @@ mod proposal;
 mod text;
 mod verdict;
 
-pub use entry::{Batch, Entries, Entry, Key};
+pub use batch::Batch;
+pub use entries::Entries;
+pub use entry::{Entry, Key};
 pub use kind::Kind;
 pub use memory::NoMemory;
 pub use proposal::Proposal;

@@ -1,7 +1,7 @@
 use std::alloc::{AllocError, AllocFailed};
 use thiserror::Error;
 
-/// Want of memory: an allocation was refused.
+/// Out of memory: an allocation was refused.
 ///
 /// Each call whose result holds it may answer it at any time, and no clause ties it to a cause.
 /// Source: this project's own.

@@ -42,7 +42,7 @@ pub enum Proposal {
 }
 
 impl Proposal {
-    /// Another proposal of the same contents. The only error is want of memory.
+    /// Another proposal of the same contents. The only error is `NoMemory`.
     pub fn copy(&self) -> Result<Proposal, NoMemory>
         ensures { IfOk result (λ copy. copy ≡ self.now) }
     {

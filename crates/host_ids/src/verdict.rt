@@ -26,7 +26,7 @@ pub enum Verdict {
 }
 
 impl Verdict {
-    /// Another verdict of the same contents. The only error is want of memory.
+    /// Another verdict of the same contents. The only error is `NoMemory`.
     pub fn copy(&self) -> Result<Verdict, NoMemory>
         ensures { IfOk result (λ copy. copy ≡ self.now) }
     {

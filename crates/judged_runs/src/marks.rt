@@ -12,7 +12,7 @@ pub struct Misprint {
     pub flaw: Flaw,
 }
 
-/// The first word, which may not be empty, and what stands behind it, which may not either.
+/// The first word, which may not be empty, and what stands after it, which may not either.
 fn cut(text: &str) -> Result<(&str, &str), Flaw> {
     match text.split_once(' ') {
         Some((word, rest)) => {
@@ -37,7 +37,7 @@ fn only_word(alloc: Global, text: &str) -> Result<Text, Flaw> {
     Ok(Text::new(alloc, text.as_bytes())?)
 }
 
-/// What stands behind the group, which is always 1.
+/// What stands after the group, which is always 1.
 fn behind_group(text: &str) -> Result<&str, Flaw> {
     let (group, rest) = cut(text)?;
     if group != "1" {

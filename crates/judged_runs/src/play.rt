@@ -22,7 +22,7 @@ fn joined(alloc: Global, lines: &[&str]) -> Result<String, NoMemory> {
     Ok(text)
 }
 
-/// Runs the lines of a script in memory. The only error is want of memory.
+/// Runs the lines of a script in memory. The only error is `NoMemory`.
 pub fn play(alloc: Global, script: &[&str]) -> Result<Played, NoMemory> {
     let text = joined(alloc, script)?;
     let mut words = Vec::new(alloc);

@@ -31,7 +31,7 @@ pub struct Section<'a> {
     pub head: Head<'a>,
     /// The number of its head in the input, from 1 on.
     pub line: u64,
-    /// The lines behind its head.
+    /// The lines after its head.
     pub body: Vec<&'a str>,
 }
 

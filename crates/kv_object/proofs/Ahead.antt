@@ -31,7 +31,7 @@ pub record Ahead (total : Result Pairs ℕ) (size : ℕ) (pairs : Pairs) (before
 
 -- ---- pairs read so far
 
--- a key above all others is put behind them
+-- a key above all others is put after them
 appended : (pairs : Pairs) (key value : List ℕ) → all_below key pairs ≡ true → insert_entry key_order pairs key value ≡ pairs ++ (key, value) ∷ []
 appended [] key value h = refl
 appended (e ∷ rest) key value h =

@@ -1,7 +1,8 @@
 ghost use Rattle.std.specs.Prelude.{◌≡◌, ◌≤◌, ◌<◌, ◌^◌, ◌+◌, ◌++◌, ℕ, suc, List, length, Option, Some, None, IfOk, IfSome, OnOk, Ok, Err, IsErrOf, true};
 ghost use Rattle.std.specs.Option.{option_copied, option_map};
 ghost use Rattle.std.specs.Map.Iter.{deref_pair};
-ghost use Rattle.object_model.specs.Object.{Pairs};
+ghost use Rattle.std.specs.BTreeMap.{insert_entry};
+ghost use Rattle.object_model.specs.Object.{Pairs, key_order};
 ghost use Rattle.object_model.specs.Image.{spelt, image, part_of, text_in, is_next, is_stored, with_first, read_pairs, read_image};
 ghost use Rattle.kv_object.specs.declared.image.ImageFault.TheVariants.{NoMemory as OutOfMemory};
 
@@ -17,7 +18,7 @@ use thiserror::Error;
 #[derive(Debug, PartialEq, Eq, Drop, Error)]
 pub enum ImageFault {
     /// The length or the count at this place is refused: a key or a value that is refused or cut
-    /// short counts at its length, and bytes behind the last pair count at their first.
+    /// short counts at its length, and bytes after the last pair count at their first.
     #[error("no image of an object: what stands at {at} is refused")]
     NotImage {
         /// The place, from 0.
@@ -68,7 +69,7 @@ fn spell(out: &mut Vec<u8>, text: &[u8]) -> Result<(), NoMemory>
 
 // ---- reading
 
-/// So many bytes, and what stands behind them, where there are so many.
+/// So many bytes, and what stands after them, where there are so many.
 fn part_of(count: usize, bytes: &[u8]) -> Option<(&[u8], &[u8])>
     ensures { option_map deref_pair result ≡ part_of count bytes.now }
 {
@@ -78,7 +79,7 @@ fn part_of(count: usize, bytes: &[u8]) -> Option<(&[u8], &[u8])>
     Some(bytes.split_at(count))
 }
 
-/// A text behind its length, and what stands behind it, where neither is cut short.
+/// A text after its length, and what stands after it, where neither is cut short.
 fn text_in(bytes: &[u8]) -> Option<(&[u8], &[u8])>
     ensures text { option_map deref_pair result ≡ text_in bytes.now }
     ensures room { IfSome result (λ p. 2 + length p.0.now + length p.1.now ≡ length bytes.now) }
@@ -104,7 +105,7 @@ fn is_stored(value: &[u8]) -> bool
     is_value(value) && value.len() <= 512
 }
 
-/// A key and its value, and what stands behind them.
+/// A key and its value, and what stands after them.
 #[derive(Drop)]
 struct Found<'a> {
     key: &'a [u8],
@@ -112,7 +113,7 @@ struct Found<'a> {
     rest: &'a [u8],
 }
 
-/// The pair that bytes at a place begin with, which stands behind a key.
+/// The pair that bytes at a place begin with, which stands after a key.
 #[tactic(auto, unfolding(object_model::specs::Image::read_pairs))]
 fn pair_in<'a>(before: Option<&[u8]>, at: usize, bytes: &'a [u8]) -> Result<Found<'a>, ImageFault>
     requires { at + length bytes.now < 2 ^ 64 }
@@ -137,7 +138,20 @@ fn pair_in<'a>(before: Option<&[u8]>, at: usize, bytes: &'a [u8]) -> Result<Foun
     Ok(Found { key, value, rest })
 }
 
-/// So many pairs, where nothing stands behind them.
+/// A key has this value.
+fn put_pair(
+    alloc: Global,
+    held: &mut BTreeMap<Text, Text>,
+    key: &[u8],
+    value: &[u8],
+) -> Result<(), NoMemory>
+    ensures { OnOk result (held.new.entries ≡ insert_entry key_order held.old.entries key.now value.now) }
+{
+    held.insert(Text::new(alloc, key)?, Text::new(alloc, value)?)?;
+    Ok(())
+}
+
+/// So many pairs, where nothing stands after them.
 fn pairs_in(alloc: Global, count: usize, bytes: &[u8]) -> Result<BTreeMap<Text, Text>, ImageFault>
     requires { 4 + length bytes.now < 2 ^ 64 }
     ensures pairs { IfOk result (λ held. read_pairs count None 4 bytes.now ≡ Ok held.entries) }
@@ -149,7 +163,7 @@ fn pairs_in(alloc: Global, count: usize, bytes: &[u8]) -> Result<BTreeMap<Text, 
     let mut rest = bytes;
     for _ in 0..count {
         let found = pair_in(before, at, rest)?;
-        held.insert(Text::new(alloc, found.key)?, Text::new(alloc, found.value)?)?;
+        put_pair(alloc, &mut held, found.key, found.value)?;
         before = Some(found.key);
         at += 4 + found.key.len() + found.value.len();
         rest = found.rest;
@@ -160,7 +174,7 @@ fn pairs_in(alloc: Global, count: usize, bytes: &[u8]) -> Result<BTreeMap<Text, 
     Ok(held)
 }
 
-/// The number of pairs, and what stands behind it.
+/// The number of pairs, and what stands after it.
 #[tactic(auto, unfolding(object_model::specs::Image::read_image))]
 fn count_in(bytes: &[u8]) -> Result<(usize, &[u8]), ImageFault>
     ensures count { IfOk result (λ p. read_image bytes.now ≡ read_pairs p.0 None 4 p.1.now) }
@@ -182,7 +196,7 @@ impl Kv {
     ///
     /// The number of pairs in four bytes, and for each pair, by ascending keys, the length of its
     /// key in two bytes, the key, the length of its value in two bytes, the value; numbers are
-    /// big-endian. The only error is want of memory. Source: this project's own.
+    /// big-endian. The only error is `NoMemory`. Source: this project's own.
     pub fn image(&self) -> Result<Vec<u8>, NoMemory>
         ensures bytes { IfOk result (λ bytes. bytes.items ≡ image self.now) }
         ensures reads_back { read_image (image self.now) ≡ Ok self.now }
@@ -202,7 +216,7 @@ impl Kv {
     /// The object that bytes are the image of.
     ///
     /// `NotImage` comes exactly where no object has these bytes, with the place of the first length
-    /// or count that is refused. The other error is want of memory.
+    /// or count that is refused. The other error is `NoMemory`.
     pub fn from_image(alloc: Global, bytes: &[u8]) -> Result<Kv, ImageFault>
         ensures object { IfOk result (λ object. read_image bytes.now ≡ Ok object) }
         ensures image { IfOk result (λ object. image object ≡ bytes.now) }

@@ -84,7 +84,7 @@ impl Kv {
     /// Gives it a command, `put K V`, `del K` or `add K N`, and answers the reply.
     ///
     /// A text that is no command, or has more than 512 bytes, changes nothing, and its reply is
-    /// `!`. A reply has at most 512 bytes. After want of memory, the only error, all is as before.
+    /// `!`. A reply has at most 512 bytes. After `NoMemory`, the only error, all is as before.
     pub fn update(&mut self, command: &Text) -> Result<Text, NoMemory>
         ensures reply { IfOk result (λ reply. reply ≡ (after self.old command.now).reply) }
         ensures short { IfOk result (λ reply. length reply ≤ 512) }
@@ -97,7 +97,7 @@ impl Kv {
 
     /// What a query answers, `get K` or `count`.
     ///
-    /// A text that is no query is answered `!`. The only error is want of memory.
+    /// A text that is no query is answered `!`. The only error is `NoMemory`.
     #[tactic(auto, unfolding(object_model::specs::Object::answer))]
     pub fn lookup(&self, query: &Text) -> Result<Text, NoMemory>
         ensures { IfOk result (λ found. found ≡ answer self.now query.now) }

@@ -162,7 +162,7 @@ fn refused_spellings(rt: HostRuntime) -> Result<(), Fail> {
         (b"\0\0\0\x01\0\x01a\0\x01 ", 7),
         // a count of 1,000,001
         (b"\0\x0f\x42\x41\0\x01a\0\x011", 0),
-        // a pair that isn't there, a pair and a byte behind the last
+        // a pair that isn't there, a pair and a byte after the last
         (b"\0\0\0\x02\0\x01a\0\x011", 10),
         (b"\0\0\0\x01\0\x01a\0\x011\0\x01b\0\x011", 10),
         (b"\0\0\0\x01\0\x01a\0\x0110", 10),

@@ -1,5 +1,5 @@
 use crate::Log;
-use host_ids::{Entries, Entry, Key, Proposal};
+use host_ids::{Entries, Entry, Key, Proposal, Text};
 use std::alloc::Global;
 use std::process::Abort;
 use std::test::Fail;
@@ -71,5 +71,94 @@ fn a_log_is_a_list_from_a_front(rt: HostRuntime) -> Result<(), Fail> {
     log.reset(9, 4);
     assert_eq!(rt; log.last(), 9);
     assert_eq!(rt; log.term_at(9), Some(4));
+    Ok(())
+}
+
+fn push(rt: &impl Abort, log: &mut Log, entry: Entry) -> Result<(), Fail> {
+    assert!(rt; log.last() < 100);
+    log.push(entry)?;
+    Ok(())
+}
+
+fn some(rt: &impl Abort, log: &Log, first: u64, most: u64, wanted: &[u64]) {
+    assert!(rt; log.front() < first && log.last() < 100 && first <= log.last() + 1);
+    let some = log.some(first, most);
+    assert_eq!(rt; some.len(), wanted.len());
+    for (entry, index) in some.iter().zip(wanted) {
+        assert_eq!(rt; entry.index, *index);
+    }
+}
+
+#[test]
+fn entries_are_pushed_one_by_one(rt: HostRuntime) -> Result<(), Fail> {
+    let mut log = Log::new(rt.alloc());
+    log.reset(7, 2);
+    for (index, term) in [(8, 2), (9, 3), (10, 3)] {
+        push(&rt, &mut log, entry(index, term))?;
+    }
+    assert_eq!(rt; (log.last(), log.term_at(10)), (10, Some(3)));
+    some(&rt, &log, 8, 64, &[8, 9, 10]);
+    some(&rt, &log, 9, 1, &[9]);
+    some(&rt, &log, 11, 1, &[]);
+    Ok(())
+}
+
+fn put_terms(
+    rt: &impl Abort,
+    alloc: Global,
+    log: &mut Log,
+    index: u64,
+    terms: &[u64],
+) -> Result<(), Fail> {
+    let mut held = Vec::new(alloc);
+    for term in terms {
+        held.push(entry(index, *term))?;
+    }
+    put(rt, log, index, held)
+}
+
+#[test]
+fn a_lower_term_is_remembered_until_reset(rt: HostRuntime) -> Result<(), Fail> {
+    let mut log = Log::new(rt.alloc());
+    for (index, terms, rise) in [
+        (0, [].as_slice(), true),
+        (0, [1, 3, 3].as_slice(), true),
+        (1, [2, 4].as_slice(), true),
+        (3, [4, 3].as_slice(), false),
+        (3, [4].as_slice(), false),
+    ] {
+        put_terms(&rt, rt.alloc(), &mut log, index, terms)?;
+        assert_eq!(rt; log.terms_rise(), rise);
+    }
+    log.reset(9, 4);
+    assert!(rt; log.terms_rise());
+    push(&rt, &mut log, entry(10, 3))?;
+    assert!(rt; !log.terms_rise());
+    Ok(())
+}
+
+#[test]
+fn the_longest_command_is_remembered_until_reset(rt: HostRuntime) -> Result<(), Fail> {
+    let alloc = rt.alloc();
+    let mut log = Log::new(alloc);
+    let plain = Proposal::Plain {
+        command: Text::new(alloc, b"put x 5".as_slice())?,
+    };
+    let session = Proposal::Session {
+        client: 1,
+        series: 1,
+        responded: 0,
+        command: Text::new(alloc, b"put x 50".as_slice())?,
+    };
+    let mut first = entry(1, 1);
+    first.proposal = plain;
+    let mut second = entry(2, 1);
+    second.proposal = session;
+    push(&rt, &mut log, first)?;
+    assert_eq!(rt; log.longest(), 7);
+    put(&rt, &mut log, 1, vec![in alloc; second, entry(3, 1)]?)?;
+    assert_eq!(rt; log.longest(), 8);
+    log.reset(3, 1);
+    assert_eq!(rt; log.longest(), 0);
     Ok(())
 }

@@ -104,7 +104,7 @@ unfolding EachGood
 each_more limit list more before [] g = tt
 each_more limit list more before (m ∷ ms) g = (good_more limit list more before m g.0, each_more limit list more (before ++ m ∷ []) ms g.1)
 
--- one more good mark behind good ones
+-- one more good mark after good ones
 pub each_last : (limit : ℕ) (list : List Placed) (before ms : List Mark) (m : Mark) → EachGood limit list before ms → Good limit list (before ++ ms) m → EachGood limit list before (ms ++ m ∷ [])
 unfolding EachGood
 each_last limit list before [] m g h = (rw append-nil at h, tt)

@@ -38,7 +38,7 @@ all_get P [] n x e p = absurd (none-some x e)
 all_get P (y ∷ b) zero x e p = subst P (same_Some y x e) p.0
 all_get P (y ∷ b) (suc n) x e p = all_get P b n x e p.1
 
--- what stands at an index of two lists together stands there in the first, or behind the first and has what all of the second have
+-- what stands at an index of two lists together stands there in the first, or after the first and has what all of the second have
 abbrev pub Found : {A : Type 0} → (A → Type 0) → List A → ℕ → A → Type 0
 Found P a n x = (slice_get a n ≡ Some x) ⊎ ((length a ≤ n) × P x)
 

@@ -25,7 +25,7 @@ pub ascending_parts : (e : List ℕ × List ℕ) (rest : Pairs) → is_ascending
 ascending_parts e [] h = (refl, refl)
 ascending_parts e (f ∷ rest) h = and_parts (is_lt (key_order e.0 f.0)) (is_ascending (f ∷ rest)) h
 
--- ascending pairs ascend behind a pair whose key is below theirs
+-- ascending pairs ascend after a pair whose key is below theirs
 pub ascending_from : (e : List ℕ × List ℕ) (rest : Pairs) → is_below e.0 rest ≡ true → is_ascending rest ≡ true → is_ascending (e ∷ rest) ≡ true
 ascending_from e [] h k = refl
 ascending_from e (f ∷ rest) h k = and_from (is_lt (key_order e.0 f.0)) (is_ascending (f ∷ rest)) h k
@@ -59,7 +59,7 @@ inserted_by P key value e rest Less q l m g = l q
 inserted_by P key value e rest Equal q l m g = m q
 inserted_by P key value e rest Greater q l m g = g q
 
--- what holds in front of the first pair, at it and behind it holds of an insertion
+-- what holds in front of the first pair, at it and after it holds of an insertion
 insert_cases : (P : Pairs → Type 0) (key value : List ℕ) (e : List ℕ × List ℕ) (rest : Pairs)
     → (key_order key e.0 ≡ Less → P ((key, value) ∷ e ∷ rest)) → (key_order key e.0 ≡ Equal → P ((e.0, value) ∷ rest)) → (key_order key e.0 ≡ Greater → P (e ∷ insert_entry key_order rest key value))
     → P (insert_entry key_order (e ∷ rest) key value)

@@ -51,7 +51,7 @@ next_from : (before : Option (List ℕ)) (e : List ℕ × List ℕ) (rest : Pair
 next_from None e rest k h = k
 next_from (Some key) e rest k h = and_from (is_key e.0) (is_lt (key_order key e.0)) k h
 
--- pairs of their forms that ascend behind a key are read
+-- pairs of their forms that ascend after a key are read
 pairs_back : (pairs : Pairs) (before : Option (List ℕ)) (at : ℕ) → list_all is_pair pairs ≡ true → is_ascending pairs ≡ true → follows before pairs ≡ true
     → read_pairs (length pairs) before at (flat_map spelt_pair pairs) ≡ Ok pairs
 unfolding read_pairs
@@ -93,7 +93,7 @@ byte_small (b ∷ bytes) h (suc i) = byte_small bytes (and_parts (nat_lt b 256) 
 bytes_parts : (a b : List ℕ) → AreBytes (a ++ b) → AreBytes a × AreBytes b
 bytes_parts a b h = and_parts (list_all (λ b. nat_lt b 256) a) (list_all (λ b. nat_lt b 256) b) (sym (list_all-append (λ b. nat_lt b 256) a b) ∙ h)
 
--- so many bytes and what stands behind them are the whole
+-- so many bytes and what stands after them are the whole
 abbrev IsParted : ℕ → List ℕ → List ℕ × List ℕ → Type 0
 IsParted n bytes p = (bytes ≡ p.0 ++ p.1) × (length p.0 ≡ n)
 
@@ -103,7 +103,7 @@ part_whole n bytes =
     (λ q. (sym (take-append-drop n bytes), length-take-le n bytes (leb-true n (length bytes) q)))
     (λ q. tt)
 
--- a text and what stands behind it are the whole
+-- a text and what stands after it are the whole
 abbrev IsSpelt : List ℕ → List ℕ × List ℕ → Type 0
 IsSpelt bytes p = (bytes ≡ spelt p.0 ++ p.1) × AreBytes p.1
 
@@ -121,7 +121,7 @@ text_by bytes (Some p) b h =
 text_whole : (bytes : List ℕ) → AreBytes bytes → IfSome (text_in bytes) (IsSpelt bytes)
 text_whole bytes b = text_by bytes (part_of 2 bytes) b (part_whole 2 bytes)
 
--- what holds behind a text that passes holds of the whole
+-- what holds after a text that passes holds of the whole
 with_text_ok : (P : Pairs → Type 0) (F : List ℕ × List ℕ → Type 0) (at : ℕ) (o : Option (List ℕ × List ℕ)) (test : List ℕ → Bool) (next : List ℕ → List ℕ → Result Pairs ℕ)
     → IfSome o F → ((p : List ℕ × List ℕ) → F p → test p.0 ≡ true → IfOk (next p.0 p.1) P) → IfOk (with_text at o test next) P
 with_text_ok P F at None test next f g = tt
@@ -131,7 +131,7 @@ with_first_ok : (P Q : Pairs → Type 0) (e : List ℕ × List ℕ) (r : Result 
 with_first_ok P Q e (Ok es) h f = f es h
 with_first_ok P Q e (Err at) h f = tt
 
--- bytes are so many pairs of their forms, that ascend behind a key
+-- bytes are so many pairs of their forms, that ascend after a key
 record AreRead (n : ℕ) (before : Option (List ℕ)) (bytes : List ℕ) (pairs : Pairs) : Type 0 where
   spelling : bytes ≡ flat_map spelt_pair pairs
   count : length pairs ≡ n

@@ -35,7 +35,7 @@ pub record IsImage (bytes : List ℕ) : Type 0 where
 
 -- ---- reading: the pairs, or the place of the first length or count that is refused
 
--- so many bytes, and what stands behind them
+-- so many bytes, and what stands after them
 abbrev pub part_of : ℕ → List ℕ → Option (List ℕ × List ℕ)
 part_of n bytes = if nat_le n (length bytes) then Some (take n bytes, drop n bytes) else None
 
@@ -43,7 +43,7 @@ abbrev pub text_behind : Option (List ℕ × List ℕ) → Option (List ℕ × L
 text_behind None = None
 text_behind (Some p) = part_of (from_be_bytes w16 p.0) p.1
 
--- a text behind its length, and what stands behind it; none where the length or the text is cut short
+-- a text after its length, and what stands after it; none where the length or the text is cut short
 abbrev pub text_in : List ℕ → Option (List ℕ × List ℕ)
 text_in bytes = text_behind (part_of 2 bytes)
 
@@ -65,7 +65,7 @@ abbrev pub with_first : List ℕ × List ℕ → Result Pairs ℕ → Result Pai
 with_first e (Ok es) = Ok (e ∷ es)
 with_first e (Err at) = Err at
 
--- so many pairs behind a key, and nothing behind them
+-- so many pairs after a key, and nothing after them
 unfoldable pub read_pairs : ℕ → Option (List ℕ) → ℕ → List ℕ → Result Pairs ℕ
 read_pairs zero before at [] = Ok []
 read_pairs zero before at (b ∷ bytes) = Err at
@@ -78,7 +78,7 @@ abbrev pub counted : Option (List ℕ × List ℕ) → Result Pairs ℕ
 counted None = Err 0
 counted (Some p) = if nat_le (from_be_bytes w32 p.0) most_keys then read_pairs (from_be_bytes w32 p.0) None 4 p.1 else Err 0
 
--- the object that bytes are the image of, or the place of the first length or count that is refused: a key or a value that is refused or cut short counts at its length, bytes behind the last pair at their first
+-- the object that bytes are the image of, or the place of the first length or count that is refused: a key or a value that is refused or cut short counts at its length, bytes after the last pair at their first
 unfoldable pub read_image : List ℕ → Result Pairs ℕ
 read_image bytes = counted (part_of 4 bytes)
 

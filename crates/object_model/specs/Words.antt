@@ -34,11 +34,11 @@ is_key text = is_name text 64
 abbrev pub is_value : List ℕ → Bool
 is_value text = list_all is_value_byte text && nat_lt 0 (length text)
 
--- a number with one more digit behind it, where that is a digit and the number is at most so much
+-- a number with one more digit after it, where that is a digit and the number is at most so much
 abbrev pub with_digit : ℕ → ℕ → ℕ → Option ℕ
 with_digit most n c = if nat_le 48 c && nat_le c 57 && nat_le (10 * n + (c - 48)) most then Some (10 * n + (c - 48)) else None
 
--- the number that digits make behind others
+-- the number that digits make after others
 unfoldable pub number_on : ℕ → Option ℕ → List ℕ → Option ℕ
 number_on most None text = None
 number_on most (Some n) [] = Some n

@@ -79,7 +79,7 @@ pub fn shown(alloc: Global, found: Option<&Text>) -> Result<Text, NoMemory>
     }
 }
 
-/// The decimal digits of a number. The only error is want of memory. Source: this project's own.
+/// The decimal digits of a number. The only error is `NoMemory`. Source: this project's own.
 pub fn decimal(alloc: Global, number: u64) -> Result<Text, NoMemory>
     ensures { IfOk result (λ text. text ≡ decimal number) }
 {
@@ -126,7 +126,7 @@ impl Command {
     }
 
     /// What it does at its key, where the key has this value or none and so many keys stand. The
-    /// only error is want of memory.
+    /// only error is `NoMemory`.
     pub fn change(
         &self,
         alloc: Global,
@@ -214,7 +214,7 @@ fn command_in(alloc: Global, words: &Words<'_>) -> Result<Option<Command>, NoMem
 }
 
 /// The command that a text is, if it is one: `put K V`, `del K` or `add K N`, with one space
-/// between two words. The only error is want of memory. Source: this project's own.
+/// between two words. The only error is `NoMemory`. Source: this project's own.
 #[tactic(auto, unfolding(crate::specs::Command::command_of))]
 pub fn command_of(alloc: Global, text: &[u8]) -> Result<Option<Command>, NoMemory>
     ensures { IfOk result (λ found. found ≡ command_of text.now) }
@@ -240,7 +240,7 @@ fn query_in(alloc: Global, words: &Words<'_>) -> Result<Option<Query>, NoMemory>
     Ok(None)
 }
 
-/// The query that a text is, if it is one: `get K` or `count`. The only error is want of memory.
+/// The query that a text is, if it is one: `get K` or `count`. The only error is `NoMemory`.
 /// Source: this project's own.
 #[tactic(auto, unfolding(crate::specs::Command::query_of))]
 pub fn query_of(alloc: Global, text: &[u8]) -> Result<Option<Query>, NoMemory>

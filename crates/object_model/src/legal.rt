@@ -494,7 +494,7 @@ fn decide(alloc: Global, limit: u32, list: &[Placed], marks: &[Mark]) -> Result<
 /// Whether the marks of a group's output are legal by a list of proposals with their contexts,
 /// under a limit of sessions.
 ///
-/// Slow: it is the definition computed, for small outputs. The only error is want of memory.
+/// Slow: it is the definition computed, for small outputs. The only error is `NoMemory`.
 /// Source: this project's own.
 pub fn is_legal(
     alloc: Global,
@@ -508,7 +508,7 @@ pub fn is_legal(
 }
 
 /// The entries that marks show, in order: the list by which a whole output is judged. The only
-/// error is want of memory. Source: this project's own.
+/// error is `NoMemory`. Source: this project's own.
 pub fn entries(alloc: Global, marks: &[Mark]) -> Result<Vec<Placed>, NoMemory>
     ensures { IfOk result (λ list. list.items ≡ entries marks.now) }
 {

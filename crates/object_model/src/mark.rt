@@ -51,7 +51,7 @@ pub struct Placed {
 }
 
 impl Placed {
-    /// Another one of the same contents. The only error is want of memory.
+    /// Another one of the same contents. The only error is `NoMemory`.
     pub fn copy(&self) -> Result<Placed, NoMemory>
         ensures { IfOk result (λ copy. copy ≡ self.now) }
     {

@@ -43,7 +43,7 @@ fn follow_places(alloc: Global, limit: u32, list: &[Placed]) -> Result<Course, N
 /// The clients whose session stands after a list of proposals under a limit of sessions, the one
 /// touched longest ago first.
 ///
-/// Slow: it is the definition computed, for small lists. The only error is want of memory. Source:
+/// Slow: it is the definition computed, for small lists. The only error is `NoMemory`. Source:
 /// dissertation section 6.3; the order of eviction is this project's own.
 pub fn standing_after(alloc: Global, limit: u32, list: &[Proposal]) -> Result<Vec<u64>, NoMemory>
     ensures { IfOk result (λ clients. clients.items ≡ standing limit (reverse list.now)) }
@@ -56,7 +56,7 @@ pub fn standing_after(alloc: Global, limit: u32, list: &[Proposal]) -> Result<Ve
 /// The verdict of the proposal at a place of a list, counted from 1, after those before it. `None`
 /// exactly where the list has no such place.
 ///
-/// Slow: it is the definition computed, for small lists. The only error is want of memory. Source:
+/// Slow: it is the definition computed, for small lists. The only error is `NoMemory`. Source:
 /// dissertation section 6.3.
 pub fn verdict_at(
     alloc: Global,
@@ -82,7 +82,7 @@ pub fn verdict_at(
 /// command acts, the first one where it repeats. `None` exactly where the list has no such place
 /// or there is no reply there.
 ///
-/// Slow: it is the definition computed, for small lists. The only error is want of memory. Source:
+/// Slow: it is the definition computed, for small lists. The only error is `NoMemory`. Source:
 /// dissertation section 6.3.
 pub fn reply_at(
     alloc: Global,
@@ -104,7 +104,7 @@ pub fn reply_at(
 /// What a query answers after the first `front` places of a list, or after all where there are
 /// fewer.
 ///
-/// Slow: it is the definition computed, for small lists. The only error is want of memory. Source:
+/// Slow: it is the definition computed, for small lists. The only error is `NoMemory`. Source:
 /// this project's own.
 pub fn answer_after(
     alloc: Global,

@@ -10,7 +10,7 @@ fn text_of(alloc: Global, text: &str) -> Result<Text, Fail> {
     Ok(Text::new(alloc, text.as_bytes())?)
 }
 
-/// The first word, and what stands behind it.
+/// The first word, and what stands after it.
 fn cut(text: &str) -> (&str, &str) {
     text.split_once(' ').unwrap_or((text, ""))
 }

@@ -22,7 +22,7 @@ impl<'a> Model for Words<'a> {
 }
 
 impl<'a> Words<'a> {
-    /// The parts of this text, at least one. The only error is want of memory.
+    /// The parts of this text, at least one. The only error is `NoMemory`.
     pub fn of(alloc: Global, text: &'a [u8]) -> Result<Words<'a>, NoMemory>
         ensures { IfOk result (λ words. words ≡ words_of text.now) }
     {
@@ -114,7 +114,7 @@ pub fn is_value(text: &[u8]) -> bool
     0 < text.len()
 }
 
-/// A number with one more digit behind it.
+/// A number with one more digit after it.
 fn with_digit(most: u64, number: u64, digit: u8) -> Option<u64>
     ensures value { result ≡ with_digit most number digit }
     ensures bound { IfSome result (λ n. n ≤ most) }
@@ -129,7 +129,7 @@ fn with_digit(most: u64, number: u64, digit: u8) -> Option<u64>
     Some(next as u64)
 }
 
-/// The number that digits make behind others.
+/// The number that digits make after others.
 #[tactic(auto, unfolding(crate::specs::Words::number_on))]
 fn number_on(most: u64, start: u64, digits: &[u8]) -> Option<u64>
     requires { start ≤ most }

@@ -3,7 +3,7 @@ use Rattle.std.proofs.Common.{◌≡◌, ◌≤◌, ◌<◌, ◌+◌, ◌-◌, �
 use Rattle.std.proofs.lemmas.Bool.Decides.{nat_tests}
 use Rattle.std.specs.Prelude.{nat_lt, nat_le, max, if◌then◌else◌}
 use Rattle.roster.specs.Roster.{at, count, is_majority}
-use Rattle.log_view.specs.Log.{Log}
+use Rattle.log_view.specs.Log.{Log, term_at}
 use Rattle.raft_model.specs.Replica.{greatest, may_commit}
 use Rattle.raft_append.specs.Matching.{greatest_below}
 
@@ -81,3 +81,19 @@ skipped voters matched l term commit left h m =
     (greatest_below matched (commit + left) 0 voters)
     (omega (arith, low))
     (λ k a b. rw (between matched (commit + left) k 0 voters a b, m) refl)
+
+-- ---- stepping over indices of other terms
+
+pub earlier : (voters matched : List ℕ) (l : Log) (term commit left : ℕ)
+    → ((k : ℕ) → k ≤ commit + left → term_at l k < term)
+    → greatest (may_commit voters matched l term) commit left ≡ commit
+earlier voters matched l term commit left before =
+    let none : commit - commit ≡ 0 = omega arith in
+    let same = stepped
+    (may_commit voters matched l term)
+    commit
+    left
+    commit
+    (omega arith)
+    (λ k a b. let less = before k b in grind (arith, nat_tests)) in
+    sym same ∙ rw none refl

@@ -7,14 +7,14 @@ use host_ids::{Entries, NoMemory};
 use log_view::Log;
 use raft_model::Appended;
 
-/// A leader of the replica's term sends the entries behind `prev`, where its log has `prev_term`.
+/// A leader of the replica's term sends the entries after `prev`, where its log has `prev_term`.
 ///
 /// `commit` is the replica's commit index, from front to last; the entries are numbered from `prev` + 1
 /// on, and their last index is below 2^64; the previous term is 0 where `prev` is 0. It answers
 /// `Refused` exactly where the log ends before `prev`, or holds another term there; an index below
 /// the front is decided, and isn't compared. Else entries up to the commit index are passed over, and
 /// those that the log has with their term; from the first other one on the log's rest goes, and the
-/// entries come in its place. After want of memory, the only error, the log is as before. It takes
+/// entries come in its place. After `NoMemory`, the only error, the log is as before. It takes
 /// as long as what it moves. Source: dissertation section 3.5.
 pub fn on_append(
     log: &mut Log,

@@ -34,18 +34,20 @@ fn first_new(log: &Log, commit: u64, prev: u64, entries: &[Entry]) -> Option<usi
     None
 }
 
-/// The entries without the first `place` ones.
-fn from_place(entries: Entries, place: usize) -> Entries
+/// The entries without the first `place` ones. It takes no memory where they are shared, or where none
+/// of them goes. The only error is `NoMemory`.
+fn from_place(entries: Entries, place: usize) -> Result<Entries, NoMemory>
     requires { place ≤ length entries }
-    ensures { result ≡ drop place entries }
+    ensures { IfOk result (λ rest. rest ≡ drop place entries) }
 {
-    let mut held = entries.into_vec();
-    held.drain(..place);
-    Entries::from_vec(held)
+    if place == 0 {
+        return Ok(entries);
+    }
+    entries.part(place, entries.items().len() - place)
 }
 
-/// The entries are laid into the log, behind `prev`; it answers the least index that changed. After
-/// want of memory, the only error, the log is as before.
+/// The entries are laid into the log, after `prev`; it answers the least index that changed. After
+/// `NoMemory`, the only error, the log is as before.
 pub(crate) fn lay(
     log: &mut Log,
     commit: u64,
@@ -63,7 +65,7 @@ pub(crate) fn lay(
         None => Ok(None),
         Some(place) => {
             let index = prev + place as u64;
-            log.append_after(index, from_place(entries, place))?;
+            log.append_after(index, from_place(entries, place)?)?;
             Ok(Some(index + 1))
         }
     }

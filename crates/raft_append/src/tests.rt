@@ -118,14 +118,16 @@ fn replies_move_the_next_index(rt: HostRuntime) -> Result<(), Fail> {
 
 #[test]
 fn a_majority_commits_an_entry_of_the_term(rt: HostRuntime) -> Result<(), Fail> {
-    let log = log_of(&rt, rt.alloc(), &[1, 1, 2, 2, 3, 3])?;
-    for (matched, term, commit, wanted) in [
-        ([6, 5, 0], 3, 0, 5),
-        ([6, 4, 0], 3, 1, 1),
-        ([6, 6, 6], 3, 6, 6),
-        ([6, 3, 3], 2, 1, 3),
-        ([6, 4, 6], 2, 0, 4),
+    let rising = [1, 1, 2, 2, 3, 3].as_slice();
+    for (terms, matched, term, commit, wanted) in [
+        (rising, [6, 5, 0], 3, 0, 5),
+        (rising, [6, 4, 0], 3, 1, 1),
+        (rising, [6, 6, 6], 3, 6, 6),
+        (rising, [6, 3, 3], 2, 1, 3),
+        (rising, [6, 4, 6], 2, 0, 4),
+        ([1, 3, 3, 2].as_slice(), [4, 4, 0], 3, 0, 3),
     ] {
+        let log = log_of(&rt, rt.alloc(), terms)?;
         let mut progress = Progress {
             next: [1; 10],
             matched: [0; 10],

@@ -6,3 +6,5 @@ mod Mail
 mod Steps
 mod Waits
 mod Confirming
+pub mod Sizes
+pub mod Windows

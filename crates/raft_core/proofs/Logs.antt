@@ -47,7 +47,7 @@ kept_within l commit i t c e =
     ]
     refl e
 
--- one that isn't lies behind the commit index
+-- one that isn't lies after the commit index
 new_behind : (l : Log) (commit i t : ℕ) → is_kept l commit i t ≡ false → commit < i
 new_behind l commit i t e = let a = (or_parts (nat_le i commit) (nat_le i (last l) && (term_at l i == t)) e).0 in let x : commit < i = grind (arith, nat_tests) in x
 

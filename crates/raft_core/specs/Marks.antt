@@ -1,6 +1,6 @@
 -- The row of Saved by what it needs of the batch.
 use Rattle.std.specs.Prelude.{◌-◌, ◌==◌, ◌&&◌, Bool, min, max, if◌then◌else◌}
-use Rattle.host_ids.specs.declared.entry.Batch.{Batch}
+use Rattle.host_ids.specs.declared.batch.Batch.{Batch}
 use Rattle.raft_core.specs.declared.saving.Mark.{Mark}
 use Rattle.raft_model.specs.declared.state.State.{State as Replica}
 use Rattle.roster.specs.Roster.{Seat}

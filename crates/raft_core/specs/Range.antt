@@ -62,11 +62,11 @@ BodyWithin (kinds.Propose key p) = is_fit p ≡ true
 BodyWithin (kinds.ReadAsk key) = ⊤
 BodyWithin (kinds.ReadAnswer key i) = ⊤
 
--- an envelope comes from a host, its numbers are up to 2^62, and those of its proposals are in their ranges
+-- an envelope comes from a host, its term and the numbers that a replica takes over from it are up to 2^62, and those of its proposals are in their ranges
 abbrev pub IsMail : Envelope → Type 0
 IsMail e = (1 ≤ e.from) × (e.from ≤ 9) × (e.term ≤ 2 ^ 62) × BodyWithin e.body
 
--- so are those of a piece that is to be sent and of a proposal; a snapshot that was put in place is the one that was received
+-- an input's envelope is such a one; the numbers of a piece that is to be sent are up to 2^62, and those of a proposal in their ranges; an installed snapshot has the index of the received one
 abbrev pub IsWithin : Replica → Input → Type 0
 IsWithin r inputs.Timeout = ⊤
 IsWithin r inputs.Beat = ⊤

@@ -9,7 +9,7 @@ use crate::sending::{append_to_one, is_leader_role, lower, send};
 use host_ids::{Entries, NoMemory};
 use raft_append::{Appended, Progress, commit_candidate, on_append, on_append_reply};
 use raft_model::{Role, State};
-use wire_codec::{Body, SharedEntries};
+use wire_codec::Body;
 
 /// The replica follows the sender.
 pub(crate) fn follow(r: &mut State, from: u8)
@@ -68,7 +68,7 @@ fn take_append(
     prev: u64,
     prev_term: u64,
     commit: u64,
-    entries: SharedEntries,
+    entries: Entries,
 ) -> Result<(), NoMemory>
     requires front { r.old.log.front ≤ r.old.commit }
     requires committed { r.old.commit ≤ last r.old.log }
@@ -76,8 +76,7 @@ fn take_append(
     ensures { OnOk result (r.new ≡ (takes_append seat.now from prev prev_term commit entries r.old).replica) }
 {
     let own = r.commit;
-    let copies = Entries::from_slice(seat.alloc(), entries.items())?;
-    let outcome = on_append(&mut r.log, own, prev, prev_term, copies)?;
+    let outcome = on_append(&mut r.log, own, prev, prev_term, entries)?;
     answer_append(seat, r, from, commit, outcome)
 }
 
@@ -90,7 +89,7 @@ pub(crate) fn append_row(
     prev: u64,
     prev_term: u64,
     commit: u64,
-    entries: SharedEntries,
+    entries: Entries,
 ) -> Result<(), NoMemory>
     requires front { r.old.log.front ≤ r.old.commit }
     requires committed { r.old.commit ≤ last r.old.log }

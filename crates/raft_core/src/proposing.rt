@@ -1,4 +1,4 @@
-ghost use Rattle.std.specs.Prelude.{◌≡◌, ◌<◌, ◌+◌, ◌^◌, OnOk, IfOk, ◌∷◌, []};
+ghost use Rattle.std.specs.Prelude.{◌≡◌, ◌<◌, ◌+◌, ◌^◌, OnOk, IfOk};
 ghost use Rattle.log_view.specs.Log.{last};
 ghost use Rattle.raft_model.specs.Replica.{appended, appended_to_all};
 ghost use Rattle.raft_model.specs.Proposing.{on_propose, on_local_proposal};
@@ -6,22 +6,12 @@ ghost use Rattle.raft_core.specs.Notes.{dropped_notes};
 
 use crate::seat::Seat;
 use crate::sending::{append_to_others, is_full_now, is_leader_role, lower, send_in};
-use host_ids::{Entries, Entry, Key, NoMemory, Proposal};
+use host_ids::{Entry, Key, NoMemory, Proposal};
 use raft_model::State;
-use std::alloc::Global;
 use wire_codec::Body;
 
-/// One entry as a list.
-fn single(alloc: Global, entry: Entry) -> Result<Entries, NoMemory>
-    ensures { IfOk result (λ entries. entries ≡ entry ∷ []) }
-{
-    let mut entries = Entries::new(alloc);
-    entries.push(entry)?;
-    Ok(entries)
-}
-
 /// An entry of the term at the end of the log.
-fn append(seat: &Seat, r: &mut State, key: Key, proposal: Proposal) -> Result<(), NoMemory>
+fn append(r: &mut State, key: Key, proposal: Proposal) -> Result<(), NoMemory>
     requires room { last r.old.log + 1 < 2 ^ 64 }
     ensures { OnOk result (r.new ≡ appended key proposal r.old) }
 {
@@ -32,7 +22,7 @@ fn append(seat: &Seat, r: &mut State, key: Key, proposal: Proposal) -> Result<()
         key,
         proposal,
     };
-    r.log.append_after(index - 1, single(seat.alloc(), entry)?)?;
+    r.log.push(entry)?;
     lower(r, index);
     Ok(())
 }
@@ -47,7 +37,7 @@ pub(crate) fn append_to_all(
     requires room { last r.old.log + 1 < 2 ^ 64 }
     ensures { OnOk result (r.new ≡ appended_to_all seat.now key proposal r.old) }
 {
-    append(seat, r, key, proposal)?;
+    append(r, key, proposal)?;
     append_to_others(seat, r)
 }
 

@@ -15,7 +15,7 @@ ghost use Rattle.raft_core.specs.declared.fault.CoreFault.TheVariants as faults;
 use crate::fault::CoreFault;
 use crate::notes::leader_note;
 use crate::rows::{ranges, row_of};
-use crate::saving::{Mark, have_bytes, mark_of, ready_row, saved_row};
+use crate::saving::{Mark, is_stuck_now, mark_of, ready_row, saved_row};
 use crate::seat::Seat;
 use crate::sending::{is_changed_now, may_send};
 use crate::state::fresh_state;
@@ -31,7 +31,7 @@ use wire_codec::{Envelope, Envelopes};
 ///
 /// Clauses see it as the record of its seat, its state, and the envelopes that it has released to be
 /// sent and that `sent` hasn't handed out yet. Each call is a row of the step table. After want of
-/// memory a replica is only to be dropped: `step`, `ready` and `saved` answer want of memory from
+/// memory a replica is only to be dropped: `step`, `ready` and `saved` answer `NoMemory` from
 /// then on, so that it doesn't act on a state that a row left half done. Source: dissertation
 /// chapters 3, 5 and 6; batches, and envelopes that are held until what they promise is saved, are
 /// this project's own.
@@ -58,7 +58,7 @@ impl Model for Replica {
 
 impl Replica {
     /// The replica of group 1 to 64 at host `me`, which has just begun. `voters` are the 1 to 7 hosts
-    /// of the group, ascending, each 1 to 9, with `me` among them. The only error is want of memory.
+    /// of the group, ascending, each 1 to 9, with `me` among them. The only error is `NoMemory`.
     pub fn new(alloc: Global, group: u8, me: u8, voters: &[u8]) -> Result<Replica, NoMemory>
         requires host { (1 ≤ me) × (me ≤ 9) }
         requires few { length voters.now ≤ 7 }
@@ -73,14 +73,13 @@ impl Replica {
         })
     }
 
-    /// The row of an input, and then what may go on the wire behind it: it answers the notes.
+    /// The row of an input, and then what may go on the wire after it: it answers the notes.
     ///
-    /// An envelope comes from a host, 1 to 9; its term, its indices and its rounds are at most 2^62,
-    /// the last index of the entries of an Append among them; the number and the count of a piece are
-    /// below 2^32-1. The same holds of a piece that is to be sent. The client of a proposal is at
+    /// An envelope comes from a host, 1 to 9; its term and the indices of an Append's entries, of a reply
+    /// and of a piece are at most 2^62; the number and the count of a piece are below 2^32-1. The same holds of a piece that is to be sent. The client of a proposal is at
     /// least 1, its series 1 to 2^64-3, its responded value at most 2^64-3; the same holds of the
     /// proposals of an envelope. An Installed has the index of the received snapshot. The only error
-    /// is want of memory; then the replica is only to be dropped.
+    /// is `NoMemory`; then the replica is only to be dropped.
     pub fn step(&mut self, input: Input) -> Result<Vec<Note>, NoMemory>
         requires within { IsWithin self.old.state input }
         ensures replica { OnOk result (self.new.state ≡ (step self.old.seat input self.old.state).replica) }
@@ -102,7 +101,7 @@ impl Replica {
 
     /// The batch to save, which is pending from then on; `None` exactly where one is pending already,
     /// nothing changed since the last one, or its entries would have 2^31 bytes or more together. The
-    /// only error is want of memory; then the replica is only to be dropped.
+    /// only error is `NoMemory`; then the replica is only to be dropped.
     pub fn ready(&mut self) -> Result<Option<Batch>, NoMemory>
         ensures replica { OnOk result (self.new.state ≡ after_ready self.old.state) }
         ensures batch { IfOk result (λ batch. batch ≡ ready self.old.state) }
@@ -119,11 +118,11 @@ impl Replica {
         Ok(batch)
     }
 
-    /// The pending batch was saved: the row, and then what may go on the wire behind the batch's
+    /// The pending batch was saved: the row, and then what may go on the wire after the batch's
     /// envelopes; it answers the notes.
     ///
     /// `NotPending` comes exactly where `id` isn't the number of the pending batch; nothing changes
-    /// then. The only other error is want of memory; then the replica is only to be dropped.
+    /// then. The only other error is `NoMemory`; then the replica is only to be dropped.
     pub fn saved(&mut self, id: u64) -> Result<Vec<Note>, CoreFault>
         ensures not_pending { is_pending_id self.old.state id ≡ false → result ≡ Err (faults.NotPending (pending_id self.old.state)) }
         ensures kept { is_pending_id self.old.state id ≡ false → self.new ≡ self.old }
@@ -185,7 +184,8 @@ impl Replica {
         }
     }
 
-    /// The snapshot that was received whole and isn't put in place yet, if there is one.
+    /// The last snapshot that was received whole, if there is one. It stays there after its install, until
+    /// another one takes its place.
     pub fn inbox(&self) -> Option<&Received>
         ensures { option_copied result ≡ option_map (λ b. b.received) self.now.state.inbox }
     {
@@ -203,11 +203,11 @@ impl Replica {
     }
 
     /// Whether something changed since the last batch was taken, and can be taken: the entries of a
-    /// batch have fewer than 2^31 bytes together. It takes as long as there are such entries.
+    /// batch have fewer than 2^31 bytes together.
     pub fn changed(&self) -> bool
         ensures { result ≡ (is_changed self.now.state && not (is_stuck self.now.state)) }
     {
-        is_changed_now(&self.state) && !have_bytes(self.state.log.tail(self.state.from), 1 << 31)
+        is_changed_now(&self.state) && !is_stuck_now(&self.state)
     }
 
     /// The next envelope that goes on the wire; `None` exactly where nothing is released. It meets the
@@ -231,7 +231,7 @@ fn put_out(out: &mut VecDeque<Envelope>, envelopes: Envelopes) -> Result<(), NoM
     ensures put { OnOk result (out.new.items ≡ out.old.items ++ envelopes) }
     ensures mail { All IsMail out.new.items }
 {
-    let mut more = VecDeque::from_vec(envelopes.into_vec());
+    let mut more = VecDeque::from_vec(envelopes.into_vec()?);
     out.append(&mut more)?;
     Ok(())
 }
@@ -285,7 +285,7 @@ fn release(r: &mut State, out: &mut VecDeque<Envelope>) -> Result<(), NoMemory>
     ensures mail { All IsMail out.new.items }
 {
     if may_send(r) {
-        let held = r.held.take();
+        let held = r.held.take()?;
         put_out(out, held)?;
     }
     Ok(())
@@ -344,7 +344,7 @@ fn finish(seat: &Seat, r: &mut State, mark: Mark) -> Result<(bool, Envelopes), N
     Ok((led, take_envelopes(seat.alloc(), r)))
 }
 
-/// The row of Saved, and then what may go on the wire behind the batch's envelopes.
+/// The row of Saved, and then what may go on the wire after the batch's envelopes.
 fn settle(
     seat: &Seat,
     r: &mut State,

@@ -1,6 +1,6 @@
 ghost use Rattle.std.specs.Prelude.{◌≡◌, ◌≤◌, ◌<◌, ◌+◌, ◌-◌, ◌^◌, length, nat_le, OnOk, IfOk, true};
 ghost use Rattle.log_view.specs.Log.{last};
-ghost use Rattle.raft_model.specs.Saving.{payload, bytes_of, next_id, batch_of, batch_last, gave_batch, stabilised, counts_own, own_vote, own_match, saved_batch};
+ghost use Rattle.raft_model.specs.Saving.{payload, bytes_of, next_id, batch_of, batch_last, gave_batch, is_stuck, stabilised, counts_own, own_vote, own_match, saved_batch};
 ghost use Rattle.raft_model.specs.Step.{ready, after_ready};
 ghost use Rattle.raft_core.specs.Notes.{led_notes};
 ghost use Rattle.raft_model.specs.Replica.{is_candidate};
@@ -12,6 +12,13 @@ use crate::sending::{is_candidate_role, is_changed_now, is_leader_role, is_waiti
 use crate::voting::count_grant;
 use host_ids::{Batch, Entry, NoMemory, Proposal};
 use raft_model::{Pending, State, Taken};
+use wire_codec::MOST_COMMAND;
+
+/// A batch whose entries have so many bytes or more isn't taken.
+const MOST_BATCH: u64 = 1 << 31;
+
+/// So many entries of 51 bytes and a command of at most 512 have fewer bytes than that.
+const SURELY_FEW: usize = 3_800_000;
 
 /// The number of the batch after this one.
 fn id_after(id: u64) -> u64
@@ -34,7 +41,7 @@ fn payload_len(proposal: &Proposal) -> usize
 }
 
 /// Whether these entries have so many bytes together.
-pub(crate) fn have_bytes(entries: &[Entry], most: u64) -> bool
+fn have_bytes(entries: &[Entry], most: u64) -> bool
     ensures { result ≡ nat_le most (bytes_of entries.now) }
 {
     let mut left = most;
@@ -46,14 +53,25 @@ pub(crate) fn have_bytes(entries: &[Entry], most: u64) -> bool
     left == 0
 }
 
-/// What changed since the last batch.
+/// Whether the next batch would have entries of 2^31 bytes or more. As long as their number and the
+/// longest command rule that out, no entry is looked at.
+#[tactic(auto, using(crate::proofs::Sizes::few_are_small))]
+pub(crate) fn is_stuck_now(r: &State) -> bool
+    ensures { result ≡ is_stuck r.now }
+{
+    let tail = r.log.tail(r.from);
+    let is_small = r.log.longest() <= MOST_COMMAND && tail.len() <= SURELY_FEW;
+    !is_small && have_bytes(tail, MOST_BATCH)
+}
+
+/// What changed since the last batch. Its entries are shared, so it can be copied without memory.
 fn batch_now(r: &State) -> Result<Batch, NoMemory>
     requires from { r.now.log.front < r.now.from }
     requires within { r.now.from ≤ last r.now.log + 1 }
     requires id { r.now.batches ≤ 2 ^ 62 }
     ensures { IfOk result (λ batch. batch ≡ batch_of r.now) }
 {
-    let entries = r.log.rest(r.from)?;
+    let entries = r.log.rest(r.from)?.share()?;
     Ok(Batch {
         id: id_after(r.batches),
         term: r.term,
@@ -67,12 +85,12 @@ fn batch_now(r: &State) -> Result<Batch, NoMemory>
 }
 
 /// The held envelopes wait for the batch.
-fn give(r: &mut State, batch: Batch)
+fn give(r: &mut State, batch: Batch) -> Result<(), NoMemory>
     requires batch { batch ≡ batch_of r.old }
     requires room { last r.old.log + 1 < 2 ^ 64 }
-    ensures { r.new ≡ gave_batch r.old }
+    ensures { OnOk result (r.new ≡ gave_batch r.old) }
 {
-    let envelopes = r.held.take();
+    let envelopes = r.held.take()?;
     r.batches = batch.id;
     r.pending = Some(Pending { batch, envelopes });
     r.taken = Taken {
@@ -82,6 +100,7 @@ fn give(r: &mut State, batch: Batch)
         front: r.log.front(),
     };
     r.from = r.log.last() + 1;
+    Ok(())
 }
 
 /// The batch to save, if there is one.
@@ -93,15 +112,11 @@ pub(crate) fn ready_row(r: &mut State) -> Result<Option<Batch>, NoMemory>
     ensures replica { OnOk result (r.new ≡ after_ready r.old) }
     ensures batch { IfOk result (λ batch. batch ≡ ready r.old) }
 {
-    if is_waiting(r) || !is_changed_now(r) {
+    if is_waiting(r) || !is_changed_now(r) || is_stuck_now(r) {
         return Ok(None);
     }
     let batch = batch_now(r)?;
-    if have_bytes(batch.entries.items(), 1 << 31) {
-        return Ok(None);
-    }
-    let kept = batch_now(r)?;
-    give(r, kept);
+    give(r, batch.copy()?)?;
     Ok(Some(batch))
 }
 

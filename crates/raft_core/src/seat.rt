@@ -27,7 +27,7 @@ impl Model for Seat {
 }
 
 impl Seat {
-    /// The place of host `me`. The only error is want of memory.
+    /// The place of host `me`. The only error is `NoMemory`.
     pub(crate) fn new(alloc: Global, group: u8, me: u8, voters: &[u8]) -> Result<Seat, NoMemory>
         requires host { (1 ≤ me) × (me ≤ 9) }
         requires few { length voters.now ≤ 7 }

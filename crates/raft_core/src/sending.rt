@@ -5,7 +5,7 @@ ghost use Rattle.raft_model.specs.Replica.{sent, sent_in, append_to, each_other,
 use crate::seat::Seat;
 use host_ids::NoMemory;
 use raft_model::{Role, State};
-use wire_codec::{Body, Envelope, SharedEntries};
+use wire_codec::{AppendHead, Body, Envelope, MOST_ENTRIES};
 
 /// An envelope of the replica's term is held.
 pub(crate) fn send(seat: &Seat, r: &mut State, to: u8, body: Body) -> Result<(), NoMemory>
@@ -124,6 +124,7 @@ pub(crate) fn take_term(r: &mut State, term: u64)
 }
 
 /// Entries to one voter, where it is known which.
+#[tactic(auto, using(crate::proofs::Windows::first_ones))]
 pub(crate) fn append_to_one(seat: &Seat, r: &mut State, to: u8) -> Result<(), NoMemory>
     requires host { to ≤ 9 }
     ensures { OnOk result (r.new ≡ append_to seat.now to r.old) }
@@ -131,16 +132,18 @@ pub(crate) fn append_to_one(seat: &Seat, r: &mut State, to: u8) -> Result<(), No
     let next = r.next[to as usize];
     if r.log.front() < next && next - 1 <= r.log.last() {
         let prev = next - 1;
-        let prev_term = r.log.term_or_zero(prev);
-        let entries = SharedEntries::new(seat.alloc(), r.log.slice(next, 64)?)?;
-        let commit = r.commit;
-        let body = Body::Append {
+        let head = AppendHead {
+            from: seat.me(),
+            to,
+            group: seat.group(),
+            term: r.term,
             prev,
-            prev_term,
-            commit,
-            entries,
+            prev_term: r.log.term_or_zero(prev),
+            commit: r.commit,
         };
-        send(seat, r, to, body)?;
+        let tail = r.log.tail(next);
+        r.held
+            .push_append(head, tail, MOST_ENTRIES.min(tail.len()))?;
     }
     Ok(())
 }

@@ -53,7 +53,7 @@ fn joined(alloc: Global, hand: &[Chunk]) -> Result<Text, NoMemory>
     for chunk in hand {
         bytes.extend_from_slice(chunk.bytes.bytes())?;
     }
-    Ok(Text::from_vec(bytes))
+    Text::from_vec(bytes)
 }
 
 /// A SnapReply, whose term was taken over.
@@ -110,7 +110,7 @@ fn has_place(log: &Log, index: u64, term: u64) -> bool
     index <= log.last() && log.term_or_zero(index) == term
 }
 
-/// The log begins behind a snapshot.
+/// The log begins after a snapshot.
 fn base(r: &mut State, index: u64, term: u64)
     requires behind { r.old.log.front ≤ index }
     requires room { index + 1 < 2 ^ 64 }
@@ -165,7 +165,7 @@ pub(crate) fn installed_row(
     reply_whole(seat, r, index)
 }
 
-/// A piece that goes behind those in hand: it is the last, or the next one is wanted.
+/// A piece that goes after those in hand: it is the last, or the next one is wanted.
 fn count_in(seat: &Seat, r: &mut State, from: u8, chunk: Chunk) -> Result<(), NoMemory>
     requires number { chunk.number + 1 < 2 ^ 32 }
     ensures { OnOk result (r.new ≡ after_take seat.now from chunk (counted_in (r.old.assembly ++ chunk ∷ []) chunk) r.old) }

@@ -1,7 +1,7 @@
 -- What all of a group has, and that it stays: by what hosts, envelopes and the decided list have. Source: this project's own.
 use Rattle.std.specs.Prelude.{◌≡◌, ◌≤◌, ◌⊎◌, ℕ, List, length, Option, Some, None, ⊤}
 use Rattle.std.specs.List.{All, AllByRecursion}
-use Rattle.host_ids.specs.declared.entry.Batch.{Batch}
+use Rattle.host_ids.specs.declared.batch.Batch.{Batch}
 use Rattle.host_ids.specs.declared.entry.Entry.{Entry}
 use Rattle.wire_codec.specs.declared.envelope.Envelope.{Envelope}
 use Rattle.log_view.specs.Log.{last}

@@ -39,7 +39,7 @@ refusal_of g (events.Installed h i t) = host_refusal g h
 refusal_of g (events.Down h) = host_refusal g h
 refusal_of g (events.Restart h d) = if not (is_member g h) then Some faults.NotMember else (if is_up g h then Some faults.IsUp else None)
 
--- a piece of a snapshot goes to another voter; its term is from 1 to its sender's, its index at most 2^62, and it has a spelling
+-- a piece of a snapshot goes to another voter; its term is from 1 to its sender's, its index at most 2^62, and it is well formed
 pub record MaySend (g : Group) (h to : ℕ) (c : Chunk) : Type 0 where
   pub voter : is_member g to ≡ true
   pub other : (to == h) ≡ false

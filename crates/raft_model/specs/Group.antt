@@ -8,7 +8,7 @@ use Rattle.std.specs.List.{list_any}
 use Rattle.host_ids.specs.declared.entry.Entry.{Entry}
 use Rattle.host_ids.specs.declared.entry.Key.{Key}
 use Rattle.wire_codec.specs.declared.envelope.Envelope.{Envelope}
-use Rattle.host_ids.specs.declared.entry.Batch.{Batch}
+use Rattle.host_ids.specs.declared.batch.Batch.{Batch}
 use Rattle.raft_model.specs.declared.durable.Durable.{Durable}
 use Rattle.raft_model.specs.declared.saved.SavedState.{SavedState}
 use Rattle.raft_model.specs.declared.input.Input.{Input}

@@ -94,7 +94,7 @@ append_to s v r =
     then sent s v (kinds.Append (at r.next v - 1) (term_at r.log (at r.next v - 1)) r.commit (slice r.log (at r.next v) 64)) r
     else r
 
--- the greatest of the n numbers behind low that passes, or low
+-- the greatest of the n numbers above low that passes, or low
 abbrev pub greatest : (ℕ → Bool) → ℕ → ℕ → ℕ
 greatest p low zero = low
 greatest p low (suc n) = if p (low + suc n) then low + suc n else greatest p low n

@@ -1,6 +1,6 @@
 -- A replica that starts again, from what its store has, the mark of its snapshot and its machine's durable index. Source: dissertation chapter 5; that the commit index is saved is this project's own.
 use Rattle.std.specs.Prelude.{ℕ, ◌^◌, ◌+◌, ◌&&◌, Bool, not, nat_lt, nat_le, max, if◌then◌else◌}
-use Rattle.host_ids.specs.declared.entry.Batch.{Batch}
+use Rattle.host_ids.specs.declared.batch.Batch.{Batch}
 use Rattle.raft_model.specs.declared.saved.SavedState.{SavedState}
 use Rattle.raft_model.specs.declared.durable.Durable.{Durable}
 use Rattle.log_view.specs.Log.{Log, last, reset}

@@ -30,7 +30,7 @@ abbrev pub is_first : List Chunk → Chunk → Bool
 is_first [] c = c.number == 1
 is_first (b ∷ bs) c = not (belongs b c) && (c.number == 1)
 
--- behind the last one the bytes are whole and nothing is in hand; behind another one the next number is wanted
+-- after the last one the bytes are whole and nothing is in hand; after another one the next number is wanted
 abbrev pub counted_in : List Chunk → Chunk → Took
 counted_in hand c =
     if c.number == c.count then record { hand = []; whole = Some (flat_map (λ b. b.bytes) hand); want = 1 }
@@ -74,11 +74,11 @@ sends_chunk s to c r = quiet (sent_in c.term s to (kinds.SnapChunk c.index c.las
 abbrev pub compacted : ℕ → Replica → Row
 compacted i r = if nat_lt r.log.front i && nat_le i (ripe r) then quiet (record r { log = cut_front r.log i }) else quiet r
 
--- the log holds the place with its term, so the entries behind it may stay
+-- the log holds the place with its term, so the entries after it may stay
 abbrev pub stays : Log → ℕ → ℕ → Bool
 stays l i t = nat_le i (last l) && (term_at l i == t)
 
--- the log begins behind the snapshot, with the entries that stayed or with none
+-- the log begins after the snapshot, with the entries that stayed or with none
 abbrev pub based : ℕ → ℕ → Replica → Replica
 based i t r =
     if stays r.log i t then record r { log = cut_front r.log i; commit = i; stable = max r.stable i; from = max r.from (i + 1) }

@@ -1,9 +1,9 @@
--- The step table: which row an input meets, and what goes on the wire behind it. Source: dissertation chapter 3; the held envelopes are this project's own.
+-- The step table: which row an input meets, and what goes on the wire after it. Source: dissertation chapter 3; the held envelopes are this project's own.
 use Rattle.std.specs.Prelude.{ℕ, List, [], ◌++◌, Option, Some, None, if◌then◌else◌}
 use Rattle.wire_codec.specs.declared.envelope.Envelope.{Envelope}
 use Rattle.wire_codec.specs.declared.envelope.Body.{Body}
 use Rattle.wire_codec.specs.declared.envelope.Body.TheVariants as kinds
-use Rattle.host_ids.specs.declared.entry.Batch.{Batch}
+use Rattle.host_ids.specs.declared.batch.Batch.{Batch}
 use Rattle.raft_model.specs.declared.input.Input.{Input}
 use Rattle.raft_model.specs.declared.input.Input.TheVariants as inputs
 use Rattle.raft_model.specs.declared.note.Note.{Note}
@@ -49,7 +49,7 @@ row s (inputs.Chunk to c) r = sends_chunk s to c r
 row s (inputs.Compact i) r = compacted i r
 row s (inputs.Installed i t) r = installed s i t r
 
--- the row, and then what may go on the wire behind some envelopes
+-- the row, and then what may go on the wire after some envelopes
 abbrev pub released : List Envelope → Row → Step
 released before w =
     if may_release w.replica then record { replica = record w.replica { held = [] }; notes = w.notes; sent = before ++ w.replica.held }

@@ -38,7 +38,7 @@ impl Chunks {
         &self.held
     }
 
-    /// Adds a piece at the end. After want of memory, the only error, all is as before.
+    /// Adds a piece at the end. After `NoMemory`, the only error, all is as before.
     pub fn push(&mut self, chunk: Chunk) -> Result<(), NoMemory>
         ensures ok { OnOk result (self.new ≡ self.old ++ chunk ∷ []) }
         ensures err { OnErr result (self.new ≡ self.old) }

@@ -32,7 +32,7 @@ answers_round v round a = record a { answered = slice_set a.answered v (max (at 
 abbrev pub is_answered : List ℕ → ℕ → Reads → OpenRead → Bool
 is_answered voters me a read = is_majority voters (λ v. (v == me) || nat_le read.round (at a.answered v))
 
--- the rounds of these reads ascend, up to this one at most
+-- the rounds of these reads don't fall, and are at most this one
 abbrev pub AscendTo : ℕ → List OpenRead → Type 0
 AscendTo n [] = ⊤
 AscendTo n (r ∷ rs) = (r.round ≤ n) × All (λ q. r.round ≤ q.round) rs × AscendTo n rs

@@ -26,7 +26,7 @@ pub struct OpenRead {
 /// What a leader keeps of reads: the last round of beats, the greatest round that each voter answered,
 /// and the open reads in the order of opening.
 ///
-/// It is a fact of this type that the rounds of the open reads ascend and are at most the last one. So
+/// It is a fact of this type that the rounds of the open reads don't fall and are at most the last one. So
 /// the reads that a majority has answered come before those that wait on, and a confirmation costs what
 /// it confirms, and one look more.
 /// Source: dissertation section 6.4; rounds are this project's own.
@@ -66,8 +66,8 @@ impl Reads {
         self.round
     }
 
-    /// A round begins, and a read opens for it at the index `commit`. It answers the round, which is
-    /// below 2^64. The only error is `NoMemory`; then all is as before.
+    /// A round begins, and a read opens for it at the index `commit`. It answers the round. The last round
+    /// is below 2^64-1. The only error is `NoMemory`; then all is as before.
     pub fn ask(&mut self, key: Key, origin: u8, commit: u64) -> Result<u64, NoMemory>
         requires room { self.old.round + 1 < 2 ^ 64 }
         ensures reads { OnOk result (self.new ≡ opened key origin commit (next_round self.old)) }
@@ -85,7 +85,7 @@ impl Reads {
         Ok(round)
     }
 
-    /// A round begins without a read. It answers the round, which is below 2^64.
+    /// A round begins without a read. It answers the round. The last round is below 2^64-1.
     pub fn beat(&mut self) -> u64
         requires room { self.old.round + 1 < 2 ^ 64 }
         ensures reads { self.new ≡ next_round self.old }
@@ -113,7 +113,7 @@ impl Reads {
 
     /// Removes and answers the first open read whose round a majority of the voters, `me` among it, has
     /// answered; `None` exactly where there is none, and then all is as before. `voters` are hosts, each
-    /// at most 9, and at most 7 of them, and so is `me`.
+    /// at most 9, and at most 7 of them; `me` is at most 9 too.
     ///
     /// Such a read is the first of all open reads, and each call costs one look at that one.
     pub fn confirmed(&mut self, voters: &[u8], me: u8) -> Option<OpenRead>

@@ -5,7 +5,7 @@ use Rattle.std.specs.Option.{option_map}
 use Rattle.std.specs.BTreeMap.{insert_entry, is_at}
 use Rattle.std.specs.BTreeSet.{insert_key}
 use Rattle.std.specs.Map.{lookup, remove_entry}
-use Rattle.host_ids.specs.declared.entry.Batch.{Batch}
+use Rattle.host_ids.specs.declared.batch.Batch.{Batch}
 use Rattle.host_ids.specs.declared.entry.Entry.{Entry}
 use Rattle.host_ids.specs.declared.entry.Key.{Key}
 use Rattle.host_ids.specs.declared.proposal.Proposal.{Proposal}
@@ -100,7 +100,7 @@ at_replica h w s = unless (not (is_declared w h)) 1 w (unless (not (is_member w.
 
 -- ---- events of the core
 
--- how many entries an event appended at a host's replica, if that leads behind it: only leaders append
+-- how many entries an event appended at a host's replica, if that leads after it: only leaders append
 abbrev pub appended_at : ℕ → Group → Group → ℕ
 appended_at h old new = if is_leader (replica_at new h) then last (replica_at new h).log - last (replica_at old h).log else 0
 
@@ -201,7 +201,7 @@ without key wants = remove_entry (is_at (key_order key)) wants
 abbrev pub want_of : Key → List (Key × Want) → Option Want
 want_of key wants = lookup (is_at (key_order key)) wants
 
--- the `ask` line, and lines behind it
+-- the `ask` line, and lines after it
 abbrev pub asked : List ℕ → Line → List Told → List Told
 asked context line more = record { context = context; line = line } ∷ more
 
@@ -441,7 +441,7 @@ answered contexts c (key ∷ keys) wants =
     let more = answered contexts c keys (without key wants) in
     record { wants = more.wants; told = answer_told contexts c key (want_of key wants) ++ more.told }
 
--- the entries of a replica's log behind what the cell was given, at most so many and none that isn't ripe
+-- the entries of a replica's log after what the cell was given, at most so many and none that isn't ripe
 abbrev pub next_entries : Replica → Cell → ℕ → List Entry
 next_entries r c most = take (min most (ripe r - c.applied)) (drop (c.applied - r.log.front) r.log.entries)
 
@@ -537,11 +537,11 @@ unfoldable pub save_each : List ℕ → ℕ → World → Turn
 save_each [] size w = whole (quiet w)
 save_each (h ∷ hs) size w = then_turn (save_tried h size w) (λ v. save_each hs size v)
 
--- the envelope behind the settled number arrives, and its number is settled
+-- the envelope after the settled number arrives, and its number is settled
 abbrev pub deliver_next : World → Step
 deliver_next w = arrives (envelope_at w.group.wire (w.settled + 1)) (w.settled + 1) (record w { settled = w.settled + 1 })
 
--- so many envelopes behind the settled number arrive, in order
+-- so many envelopes after the settled number arrive, in order
 unfoldable pub deliver_each : ℕ → ℕ → World → Turn
 deliver_each zero size w = whole (quiet w)
 deliver_each (suc count) size w = then_turn (tried size w (deliver_next w)) (λ v. deliver_each count size v)
@@ -555,11 +555,11 @@ unfoldable pub apply_each : List ℕ → ℕ → World → Turn
 apply_each [] size w = whole (quiet w)
 apply_each (h ∷ hs) size w = then_turn (apply_tried h size w) (λ v. apply_each hs size v)
 
--- how many envelopes there are behind the settled number
+-- how many envelopes there are after the settled number
 abbrev pub unsettled : World → ℕ
 unsettled w = length w.group.wire - w.settled
 
--- the envelopes behind the settled number arrive, up to the newest one of now, and then comes an apply at each host
+-- the envelopes after the settled number arrive, up to the newest one of now, and then comes an apply at each host
 abbrev pub second_half : ℕ → World → Turn
 second_half size w = then_turn (deliver_each (unsettled w) size w) (λ v. apply_each v.group.voters size v)
 
@@ -635,7 +635,7 @@ abbrev pub after_by : Option Limit → Turn → (World → Outcome) → Outcome
 after_by None t next = told_before t.told (next t.world)
 after_by (Some limit) t next = told_before t.told (stops t.world (Full limit))
 
--- a run goes on behind a line, where no limit was reached in it
+-- a run goes on after a line, where no limit was reached in it
 abbrev pub after_turn : Turn → (World → Outcome) → Outcome
 after_turn t next = after_by t.full t next
 

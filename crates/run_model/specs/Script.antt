@@ -20,16 +20,16 @@ says words place text = bytes_eq (word words place) text
 abbrev pub is_group : List (List ℕ) → ℕ → Bool
 is_group words place = says words place (codes "1")
 
--- what stands behind the first space
+-- what stands after the first space
 abbrev pub behind_space : List ℕ → List ℕ
 behind_space [] = []
 behind_space (c ∷ cs) = if c == 32 then cs else behind_space cs
 
--- what stands behind a line's first four words
+-- what stands after a line's first four words
 abbrev pub behind_four : List ℕ → List ℕ
 behind_four line = behind_space (behind_space (behind_space (behind_space line)))
 
--- what stands behind a line's first seven words
+-- what stands after a line's first seven words
 abbrev pub behind_seven : List ℕ → List ℕ
 behind_seven line = behind_space (behind_space (behind_space (behind_four line)))
 
@@ -56,11 +56,11 @@ host_at words place = positive (number_of 9 (word words place))
 abbrev pub host_line : List (List ℕ) → Option ScriptLine
 host_line words = by_number (host_at words 1) (λ host. Some (lines.Host host))
 
--- the digit of a host behind the last one
+-- the digit of a host after the last one
 abbrev pub is_later : ℕ → ℕ → Bool
 is_later low b = nat_lt (low + 48) b && nat_le b 57
 
--- hosts with commas between, ascending: behind a host comes a comma, else a host behind the last one
+-- hosts with commas between, ascending: after a host comes a comma, else a host after the last one
 abbrev pub roster_on : Bool → ℕ → List ℕ → List ℕ → Option (List ℕ)
 roster_on after low found [] = if after then Some found else None
 roster_on after low found (b ∷ bs) =
@@ -201,7 +201,7 @@ session_line host words line =
     else (if begins words 4 (codes "close") then close_line host words
     else None))
 
--- the verbs that name a session come first, since what stands behind them may look like a group
+-- the verbs that name a session come first, since what stands after them may look like a group
 abbrev pub is_session_verb : List (List ℕ) → Bool
 is_session_verb words = says words 0 (codes "call") || says words 0 (codes "again") || says words 0 (codes "close")
 
@@ -221,7 +221,7 @@ wire_lines words =
     else (if begins words 3 (codes "wire") then wire_line words
     else None)))
 
--- verbs behind which no host and group stand
+-- verbs after which no host and group stand
 abbrev pub is_wire_verb : List (List ℕ) → Bool
 is_wire_verb words = says words 0 (codes "settle") || says words 0 (codes "lose") || says words 0 (codes "deliver") || says words 0 (codes "wire")
 
@@ -242,7 +242,7 @@ abbrev pub is_skipped : List ℕ → Bool
 is_skipped [] = true
 is_skipped (c ∷ cs) = c == 35
 
--- what a line says behind so much, if it is one: a line has at most 4,096 bytes
+-- what a line says after so much, if it is one: a line has at most 4,096 bytes
 unfoldable pub read_line : Setup → List ℕ → Option ScriptLine
 read_line setup line =
     if nat_lt 4096 (length line) then None
@@ -251,7 +251,7 @@ read_line setup line =
 abbrev pub named_group : List ℕ → Setup → Setup
 named_group roster setup = if nat_lt 1 (length roster) then setups.Several else setup
 
--- which groups were named behind a line, also one that is refused
+-- which groups were named after a line, also one that is refused
 abbrev pub setup_after : ScriptLine → Setup → Setup
 setup_after lines.Skipped setup = setup
 setup_after lines.End setup = setup

@@ -41,7 +41,7 @@ impl Tolds {
         }
     }
 
-    /// Adds a line at the end. After want of memory, the only error, all is as before.
+    /// Adds a line at the end. After `NoMemory`, the only error, all is as before.
     pub fn push(&mut self, told: Told) -> Result<(), NoMemory>
         ensures ok { OnOk result (self.new ≡ self.old ++ told ∷ []) }
         ensures err { OnErr result (self.new ≡ self.old) }

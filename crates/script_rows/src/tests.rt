@@ -395,7 +395,7 @@ fn push_asks(rt: &HostRuntime, script: &mut String, start: &str, last: u64) -> R
 }
 
 /// A leader backs up over thirty entries of another term, two rounds for each, so its settle stops
-/// behind its 64 rounds and leaves something to save.
+/// after its 64 rounds and leaves something to save.
 #[test]
 fn rounds_end(rt: HostRuntime) -> Result<(), Fail> {
     let mut script = lines_of(&rt, "E", ELECTION.0)?;

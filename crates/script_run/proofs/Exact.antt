@@ -143,7 +143,7 @@ done_by : (input : List ℕ) (SourceFailed SinkFailed : Type 0) (number : ℕ) �
 done_by input SourceFailed SinkFailed number settled (inl stop) within source sink s k = settled_done input SourceFailed SinkFailed number settled stop source sink s k
 done_by input SourceFailed SinkFailed number settled (inr full) within source sink s k = absurd (within full.0 full.1)
 
--- with no fault the answer is that of the run, or want of memory
+-- with no fault the answer is that of the run, or out of memory
 pub completes : ScriptsEnd → (input : List ℕ) (SourceFailed SinkFailed : Type 0) (old now : Option (List ℕ)) (number : ℕ) → HasRun input old now number → (number ≡ 4 → SourceFailed) → (number ≡ 5 → SinkFailed)
     → IsComplete input SourceFailed SinkFailed number
 completes ends input SourceFailed SinkFailed old now number h source sink = λ e within s k. done_by input SourceFailed SinkFailed number h.settled (ends input e) within source sink s k

@@ -3,7 +3,7 @@ use Rattle.std.proofs.Common.{◌≡◌, ℕ, List, [], ◌∷◌, Option, Some,
 use Rattle.std.specs.Prelude.{not, nat_le, ◌==◌, if◌then◌else◌, OnSome}
 use Rattle.std.proofs.lemmas.Bool.{cond_both}
 use Rattle.std.proofs.lemmas.Option.{none-some}
-use Rattle.host_ids.specs.declared.entry.Batch.{Batch}
+use Rattle.host_ids.specs.declared.batch.Batch.{Batch}
 use Rattle.host_ids.specs.declared.entry.Key.{Key}
 use Rattle.wire_codec.specs.declared.envelope.Envelope.{Envelope}
 use Rattle.raft_model.specs.declared.durable.Durable.{Durable}
@@ -86,7 +86,7 @@ pub kept_group : (old new : Kept) (o : Option LaneFault) → OnSome o (new ≡ o
 kept_group old new None k = k
 kept_group old new (Some f) k = ap (λ (x : Kept). x.group) k
 
--- a refusal that isn't want of memory leaves the group, and notes nothing
+-- a refusal that isn't out of memory leaves the group, and notes nothing
 pub refused_leaves : (e : LaneEvent) (g new : Group) (fault : LaneFault) (o : Option LaneFault) → (act e g).refused ≡ o → (o ≡ None → fault ≡ faults.NoMemory) → OnSome o (new ≡ g) → is_memory fault ≡ false
     → (new ≡ (act e g).group) × ((act e g).notes ≡ [])
 refused_leaves e g new fault None q m k f = let h : is_memory faults.NoMemory ≡ false = subst (λ (x : LaneFault). is_memory x ≡ false) (m refl) f in absurd cc

@@ -1,4 +1,4 @@
--- The first line feed cuts the first part off, whatever comes behind.
+-- The first line feed cuts the first part off, whatever comes after.
 use Rattle.std.proofs.Common.{◌≡◌, ℕ, ◌+◌, ◌<◌, ◌≤◌, ◌==◌, List, [], ◌∷◌, ◌++◌, Bool, true, false, Some, None, cond, length, take, drop, refl, ◌∙◌, length-append, arith, ltb-true, ltb-false}
 use Rattle.std.specs.Prelude.{position, not}
 use Rattle.std.specs.List.{position_or_len, onto_first}

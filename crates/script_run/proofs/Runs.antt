@@ -74,7 +74,7 @@ pub at_end : (setup : Setup) (w : World) (n size : ℕ) (line rest : List ℕ) (
 unfolding run
 at_end setup w n size line rest said h e t = let p = has_parts rest in rw (p.are, h, e, t) refl
 
--- the run behind a line that is none of these
+-- the run after a line that is none of these
 abbrev pub run_behind : Setup → World → ℕ → ℕ → List ℕ → List ℕ → ScriptLine → Outcome
 run_behind setup w n size line rest said = run (setup_after said setup) (turn said (size + (length line + 1)) w).world (n + 1) (size + (length line + 1)) (parts_of rest)
 

@@ -61,11 +61,11 @@ IsAnswer number = (number ≡ 0) ⊎ ((number ≡ 3) ⊎ (number ≡ 7))
 abbrev pub IsBroken : ℕ → Type 0
 IsBroken number = (number ≡ 5) ⊎ (number ≡ 8)
 
--- a fault of the source or of the sink, or want of memory, came in place of the answer
+-- a fault of the source or of the sink, or out of memory, came in place of the answer
 abbrev pub IsInstead : ℕ → Type 0
 IsInstead number = (number ≡ 4) ⊎ ((number ≡ 5) ⊎ (number ≡ 8))
 
--- the answer is this one exactly where a fact holds, but for a usage, a fault or want of memory
+-- the answer is this one exactly where a fact holds, but for a usage, a fault or out of memory
 abbrev pub IsExactly : Type 0 → ℕ → ℕ → Type 0
 IsExactly P status number = (number ≡ status → P) × (P → (number ≡ status) ⊎ ((number ≡ 2) ⊎ IsInstead number))
 
@@ -73,7 +73,7 @@ IsExactly P status number = (number ≡ status → P) × (P → (number ≡ stat
 abbrev pub IsWithinLimits : List ℕ → Type 0
 IsWithinLimits input = (limit : Limit) → (outcome_of input).stop ≢ Full limit
 
--- a script of the grammar within the limits gives 0 or want of memory, where neither the source nor the sink fails
+-- a script of the grammar within the limits gives 0 or out of memory, where neither the source nor the sink fails
 abbrev pub IsComplete : List ℕ → Type 0 → Type 0 → ℕ → Type 0
 IsComplete input SourceFailed SinkFailed number = is_script input ≡ true → IsWithinLimits input → ¬ SourceFailed → ¬ SinkFailed → (number ≡ 0) ⊎ (number ≡ 8)
 
@@ -112,7 +112,7 @@ pub record IsLegalRun (input : List ℕ) (old now : Option (List ℕ)) : Type 0 
   pub written : Appends old now (output_of input)
   pub legal : (group : ℕ) → IsLegalAtEnd group input
 
--- the last lines of a stop were written behind these bytes, or after a fault a front of both
+-- the last lines of a stop were written after these bytes, or after a fault a front of both
 abbrev pub Finished : Option (List ℕ) → Option (List ℕ) → List ℕ → Stop → World → ℕ → Type 0
 Finished old now out stop world number =
     ((number ≡ status_of stop) × Appends old now (out ++ text_of (ending stop world))) ⊎ (IsBroken number × WritesFront old now (out ++ text_of (ending stop world)))

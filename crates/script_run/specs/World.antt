@@ -18,7 +18,7 @@ world_of w = record {
   appended = w.appended;
 }
 
--- what a read that is confirmed at an index, or not yet, prints behind its `ask` line
+-- what a read that is confirmed at an index, or not yet, prints after its `ask` line
 abbrev pub read_after : rules.World → ℕ → Key → List ℕ → List ℕ → Option ℕ → List Told
 read_after w h key context query index =
     if is_reached index (rules.node_at w h).cell.applied then record { context = context; line = answer_line (rules.node_at w h).cell key query } ∷ [] else []

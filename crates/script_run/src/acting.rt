@@ -10,7 +10,7 @@ use crate::cell::tell;
 use crate::notes::tell_notes;
 use crate::world::World;
 use group_world::Lane;
-use host_ids::{Entries, Key, NoMemory, Text};
+use host_ids::{Key, NoMemory, Text};
 use raft_core::{LaneEvent, LaneFault, Note, Role};
 use run_model::{Limit, Line, Tolds};
 use std::alloc::Global;
@@ -39,7 +39,7 @@ fn leads(role: Role) -> bool
     matches!(role, Role::Leader)
 }
 
-/// How many entries an event appended where these were the last indices before and behind it.
+/// How many entries an event appended where these were the last indices before and after it.
 fn appended_by(role: Role, before: u64, behind: u64) -> u64
     ensures { result ≡ (if leads role then behind - before else 0) }
 {
@@ -48,13 +48,6 @@ fn appended_by(role: Role, before: u64, behind: u64) -> u64
     } else {
         0
     }
-}
-
-/// How many entries there are.
-fn count_of(entries: &Entries) -> usize
-    ensures { length entries.now < 2 ^ 63 }
-{
-    entries.items().len()
 }
 
 /// Whether memory ran out.
@@ -132,7 +125,7 @@ impl World {
         tell(self.alloc, Line::Refused { number }, out)
     }
 
-    /// An event of the core that moves the replica of a host: its notes. After want of memory, the only
+    /// An event of the core that moves the replica of a host: its notes. After `NoMemory`, the only
     /// error, the world is only to be dropped.
     pub fn act(&mut self, host: u8, event: LaneEvent) -> Result<Vec<Note>, NoMemory>
         requires given { IsGiven (world_of self.old).group event }
@@ -205,16 +198,7 @@ impl World {
         self.lane.changed(host)
     }
 
-    /// The decided list of the group.
-    pub fn decided(&self) -> Result<Entries, NoMemory>
-        ensures { IfOk result (λ entries. entries ≡ (world_of self.now).group.decided) }
-    {
-        let decided = self.lane.decided_from(1, u64::MAX)?;
-        count_of(&decided);
-        Ok(decided)
-    }
-
-    /// How many envelopes there are behind the settled number.
+    /// How many envelopes there are after the settled number.
     pub fn unsettled(&self) -> u64
         ensures count { result ≡ unsettled (world_of self.now) }
         ensures room { (world_of self.now).settled + result < 2 ^ 64 }

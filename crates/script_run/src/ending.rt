@@ -50,8 +50,7 @@ pub fn print_ending(
 {
     match stop {
         Stop::Ended => {
-            let decided = world.decided()?;
-            print_entries(world, decided.items(), out)?;
+            print_entries(world, world.lane.decided(), out)?;
             print_bare(alloc, Line::End, out)
         }
         Stop::Bad { line } | Stop::Spent { line } => print_bare(alloc, Line::BadLine { line }, out),

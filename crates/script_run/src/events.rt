@@ -6,11 +6,30 @@ ghost use Rattle.run_model.specs.World.{node_at};
 ghost use Rattle.script_run.specs.World.{world_of};
 
 use crate::cell::tell;
+use crate::node::Node;
 use crate::notes::kind_of;
 use crate::world::World;
-use host_ids::{Entries, NoMemory};
+use group_world::Lane;
+use host_ids::{Entry, NoMemory};
 use raft_core::LaneEvent;
 use run_model::{HostEvent, Line, Tolds};
+
+/// The entries of a host's log after what its node was given, at most `most` and none that isn't
+/// ripe.
+#[tactic(auto, using(crate::proofs::Fits::length_slice))]
+fn next_entries<'a>(lane: &'a Lane, host: u8, node: &Node, most: u32) -> &'a [Entry]
+    ensures entries { result.now ≡ next_entries (replica_at lane.now.group host) node.now.cell most }
+    ensures fit { are_fit result.now ≡ true }
+    ensures room { node.now.cell.applied + length result.now < 2 ^ 64 }
+{
+    let applied = node.applied();
+    let count = u64::from(most).min(lane.ripe(host).saturating_sub(applied));
+    let place = applied.min(lane.last(host)).max(lane.front(host));
+    match place.checked_add(1) {
+        None => &[],
+        Some(first) => lane.entry_slice(host, first, count),
+    }
+}
 
 impl World {
     /// Takes a batch of a host's replica where none is pending.
@@ -108,23 +127,6 @@ impl World {
         Ok(())
     }
 
-    /// The entries of a host's log behind what its cell was given, at most so many and none that
-    /// isn't ripe.
-    #[tactic(auto, using(crate::proofs::Fits::length_slice))]
-    fn next_entries(&self, host: u8, most: u32) -> Result<Entries, NoMemory>
-        ensures entries { IfOk result (λ entries. entries ≡ next_entries (replica_at (world_of self.now).group host) (node_at (world_of self.now) host).cell most) }
-        ensures fit { IfOk result (λ entries. are_fit entries ≡ true) }
-        ensures room { IfOk result (λ entries. (node_at (world_of self.now) host).cell.applied + length entries < 2 ^ 64) }
-    {
-        let applied = self.applied(host);
-        let count = u64::from(most).min(self.lane.ripe(host).saturating_sub(applied));
-        let place = applied.min(self.lane.last(host)).max(self.lane.front(host));
-        match place.checked_add(1) {
-            None => Ok(Entries::new(self.alloc)),
-            Some(first) => self.lane.entries(host, first, count),
-        }
-    }
-
     /// Gives entries of a host's log to its cell, at most so many; idle where none is ripe.
     pub fn apply(&mut self, host: u8, most: u32, out: &mut Tolds) -> Result<(), NoMemory>
         requires { host < 10 }
@@ -134,9 +136,9 @@ impl World {
         if !self.is_ripe(host) {
             return tell(self.alloc, Line::Idle, out);
         }
-        let entries = self.next_entries(host, most)?;
         let node = &mut self.nodes[host as usize];
-        node.apply(&self.contexts, entries.items(), out)
+        let entries = next_entries(&self.lane, host, node, most);
+        node.apply(&self.contexts, entries, out)
     }
 
     /// What an event at a host's replica does.

@@ -21,7 +21,7 @@ fn is_group(words: &Words<'_>, place: usize) -> bool
 /// The greatest series and responded value.
 const MOST_SERIES: u64 = u64::MAX - 2;
 
-/// What stands behind the first space.
+/// What stands after the first space.
 fn behind_space(text: &[u8]) -> &[u8]
     ensures { result.now ≡ behind_space text.now }
 {
@@ -78,7 +78,7 @@ fn host_line(words: &Words<'_>) -> Option<ScriptLine>
     }
 }
 
-/// Whether a byte is the digit of a host behind the last one.
+/// Whether a byte is the digit of a host after the last one.
 fn is_later(low: u8, byte: u8) -> bool
     requires { low ≤ 9 }
     ensures { result ≡ is_later low byte }
@@ -123,7 +123,7 @@ fn roster_of(alloc: Global, text: &[u8]) -> Result<Option<Text>, NoMemory>
             if hosts.len() > 7 {
                 return Ok(None);
             }
-            Ok(Some(Text::from_vec(hosts)))
+            Ok(Some(Text::from_vec(hosts)?))
         }
     }
 }
@@ -670,7 +670,7 @@ fn is_skipped(line: &[u8]) -> bool
     }
 }
 
-/// What a line says behind so much, if it is one.
+/// What a line says after so much, if it is one.
 #[tactic(auto, unfolding(run_model::specs::Script::read_line))]
 pub fn read_line(alloc: Global, setup: Setup, line: &[u8]) -> Result<Option<ScriptLine>, NoMemory>
     ensures line { IfOk result (λ said. said ≡ read_line setup line.now) }
@@ -686,7 +686,7 @@ pub fn read_line(alloc: Global, setup: Setup, line: &[u8]) -> Result<Option<Scri
     line_in(alloc, setup, &words, line)
 }
 
-/// Which groups were named behind a line, also one that is refused.
+/// Which groups were named after a line, also one that is refused.
 pub fn setup_after(line: &ScriptLine, setup: Setup) -> Setup
     ensures { result ≡ setup_after line.now setup }
 {

@@ -36,7 +36,7 @@ fn print_proposal(out: &mut Buffer, proposal: &Proposal) -> Result<(), NoMemory>
     }
 }
 
-/// Adds a word, and numbers behind it.
+/// Adds a word, and numbers after it.
 fn print_numbers(out: &mut Buffer, verb: &[u8], first: u64, second: u64) -> Result<(), NoMemory>
     ensures { OnOk result (out.new ≡ ((out.old ++ verb.now) ++ (32 ∷ decimal first)) ++ (32 ∷ decimal second)) }
 {

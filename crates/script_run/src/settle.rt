@@ -12,7 +12,7 @@ use run_model::{Limit, Tolds};
 const MOST_ROUNDS: u32 = 64;
 
 impl World {
-    /// The voters of the group, each of which is a host. The only error is want of memory, also after an
+    /// The voters of the group, each of which is a host. The only error is `NoMemory`, also after an
     /// event of the core met it.
     fn voters(&self) -> Result<Vec<u8>, NoMemory>
         ensures voters { IfOk result (λ voters. voters.items ≡ (world_of self.now).group.voters) }
@@ -67,7 +67,7 @@ impl World {
         Ok(None)
     }
 
-    /// The envelope behind the settled number arrives.
+    /// The envelope after the settled number arrives.
     fn deliver_next(&mut self, out: &mut Tolds) -> Result<(), NoMemory>
         requires { (world_of self.old).settled + 1 < 2 ^ 64 }
         ensures world { OnOk result (world_of self.new ≡ (deliver_next (world_of self.old)).world) }
@@ -78,7 +78,7 @@ impl World {
         self.arrive(self.settled, out)
     }
 
-    /// The envelopes behind the settled number arrive, up to the newest one of now. Answers the limit
+    /// The envelopes after the settled number arrive, up to the newest one of now. Answers the limit
     /// that was reached in it.
     fn deliver_each(&mut self, size: usize, out: &mut Tolds) -> Result<Option<Limit>, NoMemory>
         ensures world { OnOk result (world_of self.new ≡ (deliver_each (unsettled (world_of self.old)) size (world_of self.old)).world) }

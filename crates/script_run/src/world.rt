@@ -11,7 +11,7 @@ use std::alloc::Global;
 /// The hosts of a run, the group with its replicas, what each host keeps beside its replica, and the
 /// requests and sessions.
 ///
-/// A table has ten places, one for each number of a host. After want of memory in an event of the core
+/// A table has ten places, one for each number of a host. After `NoMemory` in an event of the core
 /// a world is broken, and only to be dropped. Else all voters are hosts.
 #[derive(Drop)]
 pub struct World {

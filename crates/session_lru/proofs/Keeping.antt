@@ -55,7 +55,7 @@ module _ (h : List Proposal) (client series responded : ℕ) (command reply : Li
   abbrev next : Proposal
   next = proposals.Session client series responded command
 
-  -- behind the command, its client's session comes first
+  -- after the command, its client's session comes first
   first_keeps : (t : Table) (x : Session) → kept_by client series reply (session_of client (admitted client responded (Some x) t)) (admitted client responded (Some x) t)
       ≡ record t { sessions = (client, with_reply series reply (raised_to responded x)) ∷ remove_entry (nat_eq client) t.sessions }
   first_keeps t x = let own = turned client client true (same_client client) in rw own (rw own refl)

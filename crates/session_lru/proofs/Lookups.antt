@@ -102,7 +102,7 @@ module _ {V : Type 0} where
     | false ↦ λ q. rw (turned e.0 client false q) (has_found client es)
   ] refl
 
-  -- the clients behind a removal
+  -- the clients after a removal
   pub removed : (client : ℕ) (es : List (ℕ × V)) → Apart (clients es) → clients (remove_entry (nat_eq client) es) ≡ without client (clients es)
   removed client [] a = refl
   removed client (e ∷ es) a = elim (e.0 == client) as (λ b. (e.0 == client) ≡ b → clients (remove_entry (nat_eq client) (e ∷ es)) ≡ cond (not b) (e.0 ∷ without client (clients es)) (without client (clients es))) [

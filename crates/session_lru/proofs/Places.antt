@@ -149,7 +149,7 @@ module _ (n : ℕ) (before : List (ℕ × Session)) (at client : ℕ) (bytes : L
               ∙ ap (λ (x : ℕ). read_sessions n ((x, record { responded = from_be_bytes w64 raised; replies = replies }) ∷ before) next (drop next bytes)) (sym e)
               ∙ ap (λ (x : ℕ). read_sessions n ((client, record { responded = x; replies = replies }) ∷ before) next (drop next bytes)) (sym r)
 
--- behind the last session nothing stands
+-- after the last session nothing stands
 pub ends : (before : List (ℕ × Session)) (at : ℕ) (bytes : List ℕ) → length bytes ≤ at → read_sessions zero before at (drop at bytes) ≡ Ok before
 unfolding read_sessions
 ends before at bytes h = let e : drop at bytes ≡ [] = drop_all at bytes h in rw e refl

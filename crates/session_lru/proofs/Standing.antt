@@ -72,7 +72,7 @@ taken_stands h t client st s = record {
       (λ e o. taken_holds t.limit client h e.0 e.1 st o) s.sessions;
 }
 
--- the clients with one more, behind the one that had to go
+-- the clients with one more, after the one that had to go
 with_new : (h : List Proposal) (t : Table) (client : ℕ) → 1 ≤ t.limit → StandsFor h t → reverse (client ∷ clients (take (t.limit - 1) t.sessions)) ≡ with_room t.limit (standing t.limit h) ++ client ∷ []
 with_new h t client one s =
     reverse_cons client (clients (take (t.limit - 1) t.sessions))

@@ -1,4 +1,4 @@
--- One step of reading: what comes behind each field.
+-- One step of reading: what comes after each field.
 use Rattle.std.proofs.Common.{◌≡◌, ℕ, suc, ◌+◌, List, [], ◌∷◌, Result, length, refl}
 use Rattle.std.specs.Prelude.{nat_le}
 use Rattle.std.specs.Int.{from_be_bytes, w16, w32, w64}

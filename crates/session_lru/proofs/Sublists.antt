@@ -31,7 +31,7 @@ filtered test before (e ∷ es) h =
       | false ↦ lower before e.0 (filter (λ x. test x.0) es) (omega (arith, q)) rest
     ]
 
--- those above a series, behind a drop of the others
+-- those above a series, after a drop of the others
 pub filtered_above : (bound before : ℕ) (es : List (ℕ × List ℕ)) → are_replies before es ≡ true → are_replies bound (filter (λ e. nat_lt bound e.0) es) ≡ true
 filtered_above bound before [] h = refl
 filtered_above bound before (e ∷ es) h =
@@ -89,7 +89,7 @@ module _ (series : ℕ) (reply : List ℕ) (most : series ≤ most_series) (shor
   length_inserted [] = omega arith
   length_inserted (e ∷ es) = length_by e es (nat_cmp series e.0) (length_inserted es)
 
--- ---- one added behind the others
+-- ---- one added after the others
 
 -- the last series, or the one that all are above
 abbrev pub last_of : ℕ → List (ℕ × List ℕ) → ℕ

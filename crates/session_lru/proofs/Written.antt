@@ -26,7 +26,7 @@ module _ (n before at : ℕ) (e : ℕ × List ℕ) (more : List ℕ) where
   pub reply_shape : reply_bytes e ++ more ≡ series ++ (size ++ (e.1 ++ more))
   reply_shape = append_assoc series (size ++ e.1) more ∙ ap (λ (l : List ℕ). series ++ l) (append_assoc size e.1 more)
 
-  -- a reply that stands first is read, and what stands behind it comes next
+  -- a reply that stands first is read, and what stands after it comes next
   reply_front : before < e.0 → e.0 ≤ most_series → length e.1 < 2 ^ 16 → read_replies (suc n) before at (reply_bytes e ++ more) ≡ with_first e (read_replies n e.0 (at + 10 + length e.1) more)
   reply_front above most short =
       let same : from_be_bytes w64 series ≡ e.0 = from_be_bytes-to_be_bytes_8 e.0 (omega (arith, most)) in

@@ -52,11 +52,11 @@ is_table t = nat_le 1 t.limit && nat_le t.limit 4096 && nat_le (length t.session
 
 -- ---- reading: a value, or the place of the first field that is refused or cut short
 
--- so many bytes, and what stands behind them
+-- so many bytes, and what stands after them
 abbrev pub part_of : ℕ → List ℕ → Option (List ℕ × List ℕ)
 part_of n bytes = if nat_le n (length bytes) then Some (take n bytes, drop n bytes) else None
 
--- a field of so many bytes is there and passes, and what comes behind it goes on
+-- a field of so many bytes is there and passes, and what comes after it goes on
 abbrev pub field : {A : Type 0} → ℕ → Option (List ℕ × List ℕ) → (List ℕ → Bool) → (List ℕ → List ℕ → Result A ℕ) → Result A ℕ
 field at None test next = Err at
 field at (Some p) test next = if test p.0 then next p.0 p.1 else Err at
@@ -64,7 +64,7 @@ field at (Some p) test next = if test p.0 then next p.0 p.1 else Err at
 abbrev pub anything : List ℕ → Bool
 anything bytes = true
 
--- so many replies above a series, and what stands behind them with its place
+-- so many replies above a series, and what stands after them with its place
 pub record Rest (A : Type 0) : Type 0 where
   pub value : A
   pub at : ℕ
@@ -85,7 +85,7 @@ read_replies (suc n) before at bytes =
     (λ size behind. field (at + 10) (part_of (from_be_bytes w16 size) behind) anything
     (λ text rest. with_first (from_be_bytes w64 series, text) (read_replies n (from_be_bytes w64 series) (at + 10 + length text) rest))))
 
--- the next sessions, of which the first was touched longest ago: so many, behind those that were read, the last one first
+-- the next sessions, of which the first was touched longest ago: so many, after those that were read, the last one first
 abbrev pub is_client : List (ℕ × Session) → List ℕ → Bool
 is_client before bytes = nat_le 1 (from_be_bytes w64 bytes) && not (has_client (from_be_bytes w64 bytes) before)
 
@@ -113,7 +113,7 @@ abbrev pub with_limit : ℕ → Result (List (ℕ × Session)) ℕ → Result Ta
 with_limit limit (Ok sessions) = Ok (record { limit = limit; sessions = sessions })
 with_limit limit (Err at) = Err at
 
--- the table that bytes are, or the place of the first field that is refused or cut short, or of the first byte behind the last field
+-- the table that bytes are, or the place of the first field that is refused or cut short, or of the first byte after the last field
 unfoldable pub read_section : List ℕ → Result Table ℕ
 read_section bytes =
     field 0 (part_of 4 bytes) is_limit

@@ -5,7 +5,7 @@ ghost use Rattle.session_lru.specs.Law.{OthersLeave};
 ghost use Rattle.session_lru.specs.Section.{ReadsBack, SpellsOne};
 
 /// Blanks and commands outside of every session pass a table by: a table that stands for a list
-/// stands for the list with such a proposal behind it. Source: dissertation section 6.3.
+/// stands for the list with such a proposal after it. Source: dissertation section 6.3.
 pub fn others_leave()
     ensures { OthersLeave }
 {}

@@ -49,7 +49,7 @@ impl Replies {
         self.held.get(&series)
     }
 
-    /// Keeps a reply, in place of one that the series has. After want of memory, the only error,
+    /// Keeps a reply, in place of one that the series has. After `NoMemory`, the only error,
     /// all is as before.
     pub fn keep(&mut self, series: u64, reply: Text) -> Result<(), NoMemory>
         ensures ok { OnOk result (self.new ≡ insert_entry nat_cmp self.old series reply) }

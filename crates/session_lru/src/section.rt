@@ -22,7 +22,7 @@ pub enum TableFault {
     #[error("no table of sessions: byte {at}")]
     NotTable {
         /// The place, from 0, of the first field that is refused or cut short, or of the first byte
-        /// behind the last field.
+        /// after the last field.
         at: usize,
     },
     /// An allocation was refused. It may come at any call that says so, and no clause ties it to a
@@ -120,7 +120,7 @@ fn number_64(bytes: &[u8], at: usize) -> Option<u64>
     Some(BigEndian::read_u64(part(bytes, at, 8)?))
 }
 
-/// A reply as bytes hold it, and the place behind it.
+/// A reply as bytes hold it, and the place after it.
 #[derive(Drop)]
 struct Spelt {
     series: u64,
@@ -184,7 +184,7 @@ impl Replies {
         size
     }
 
-    /// So many replies from a place on, of series above `responded`, and the place behind them.
+    /// So many replies from a place on, of series above `responded`, and the place after them.
     fn read(
         alloc: Global,
         bytes: &[u8],
@@ -242,7 +242,7 @@ impl SessionTable {
     }
 
     /// The table as bytes, fewer than 2^31, of which `fits` tells: equal tables have the same. The
-    /// only error is want of memory. Source: this project's own.
+    /// only error is `NoMemory`. Source: this project's own.
     pub fn image(&self) -> Result<Vec<u8>, NoMemory>
         requires { length (section self.now) < 2 ^ 31 }
         ensures bytes { IfOk result (λ b. b.items ≡ section self.now) }
@@ -258,7 +258,7 @@ impl SessionTable {
         Ok(out)
     }
 
-    /// Reads the session at a place into the table, which has room, and gives the place behind it.
+    /// Reads the session at a place into the table, which has room, and gives the place after it.
     fn read_session(&mut self, bytes: &[u8], at: usize) -> Result<usize, TableFault>
         requires at_in { at ≤ length bytes.now }
         requires room { length self.old.sessions < self.old.limit }
@@ -294,7 +294,7 @@ impl SessionTable {
     /// The table that bytes are the image of.
     ///
     /// `NotTable` comes exactly for bytes that are no table's image, with the place of the first field
-    /// that is refused or cut short, or of the first byte behind the last field: every table has one
+    /// that is refused or cut short, or of the first byte after the last field: every table has one
     /// image, and every image one table. Source: this project's own.
     pub fn from_image(alloc: Global, bytes: &[u8]) -> Result<SessionTable, TableFault>
         ensures table { IfOk result (λ t. read_section bytes.now ≡ Ok t) }

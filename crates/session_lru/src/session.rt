@@ -20,7 +20,7 @@ pub struct Session {
 
 impl Session {
     /// The verdict of a command of the session's client, with a copy of the reply that a repeat
-    /// gets. The only error is want of memory.
+    /// gets. The only error is `NoMemory`.
     pub(crate) fn verdict(&self, series: u64, responded: u64) -> Result<Verdict, NoMemory>
         ensures { IfOk result (λ v. v ≡ command_verdict true (max self.now.responded responded) series (kept_reply series self.now)) }
     {
@@ -35,7 +35,7 @@ impl Session {
         }
     }
 
-    /// Keeps the reply of a series. After want of memory, the only error, all is as before; it also
+    /// Keeps the reply of a series. After `NoMemory`, the only error, all is as before; it also
     /// comes where 2^32-1 replies are kept.
     pub(crate) fn keep(&mut self, series: u64, reply: Text) -> Result<(), NoMemory>
         ensures ok { OnOk result (self.new ≡ with_reply series reply self.old) }

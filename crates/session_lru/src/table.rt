@@ -40,7 +40,7 @@ impl Model for SessionTable {
 }
 
 impl SessionTable {
-    /// Puts a session first that stands behind those that are there. After want of memory, the only
+    /// Puts a session first that stands after those that are there. After `NoMemory`, the only
     /// error, all is as before.
     pub(crate) fn adopt(&mut self, client: u64, state: Session) -> Result<(), NoMemory>
         requires new { has_client client self.old.sessions ≡ false }
@@ -53,7 +53,7 @@ impl SessionTable {
     }
 
     /// A table without sessions, in which at most `limit`, 1 to 4,096, may stand. The only error is
-    /// want of memory.
+    /// `NoMemory`.
     pub fn new(alloc: Global, limit: u32) -> Result<SessionTable, NoMemory>
         requires { (1 ≤ limit) × (limit ≤ 4096) }
         ensures table { IfOk result (λ t. t ≡ record { limit = limit; sessions = [] }) }
@@ -66,7 +66,7 @@ impl SessionTable {
 
     /// Begins a session of a client, 1 to 2^64-1: it answers `Acts`, or `Taken` where the client has
     /// one already, which isn't touched. Where as many sessions stand as may, the one touched longest
-    /// ago is evicted. After want of memory, the only error, all is as before, the order too.
+    /// ago is evicted. After `NoMemory`, the only error, all is as before, the order too.
     pub fn register(&mut self, client: u64) -> Result<Verdict, NoMemory>
         requires { 1 ≤ client }
         ensures verdict { IfOk result (λ v. v ≡ register_verdict (session_of client self.old)) }
@@ -107,7 +107,7 @@ impl SessionTable {
     /// It answers `NotStanding` where the client has no session; else the session is touched and its
     /// responded value rises, and the answer is `Responded` for a series up to that value, `RepeatOf`
     /// where a reply of the series is kept, and `Acts` else: then the command is to be given to the
-    /// object, and its reply to `keep`. After want of memory, the only error, all is as before, the
+    /// object, and its reply to `keep`. After `NoMemory`, the only error, all is as before, the
     /// order too.
     pub fn admit(&mut self, client: u64, series: u64, responded: u64) -> Result<Verdict, NoMemory>
         requires client_in { 1 ≤ client }

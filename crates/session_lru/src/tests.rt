@@ -153,7 +153,7 @@ fn number(bytes: &[u8], at: usize, size: usize) -> Option<u64> {
     Some(number)
 }
 
-/// The place behind so many replies above a series, or the place that is refused.
+/// The place after so many replies above a series, or the place that is refused.
 fn behind_replies(bytes: &[u8], start: usize, count: u64, above: u64) -> Result<usize, usize> {
     let mut at = start;
     let mut before = above;

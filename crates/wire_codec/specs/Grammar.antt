@@ -1,4 +1,4 @@
--- Which keys, proposals, entries and envelopes have a spelling: their numbers and lengths are in their ranges. Source: this project's own.
+-- Which keys, proposals, entries and envelopes are well formed: their numbers and lengths are in their ranges. That each number is within its field's type holds already, and isn't asked again. Source: this project's own.
 use Rattle.std.specs.Prelude.{ℕ, ◌+◌, ◌-◌, ◌^◌, ◌==◌, ◌||◌, ◌&&◌, List, [], ◌∷◌, Bool, true, false, not, nat_le, nat_lt, length}
 use Rattle.host_ids.specs.declared.entry.Entry.{Entry}
 use Rattle.host_ids.specs.declared.entry.Key.{Key}
@@ -52,7 +52,7 @@ is_blank (proposals.Close client) = false
 abbrev pub is_request : Key → Proposal → Bool
 is_request key p = is_key key && is_proposal p && not (is_blank p)
 
--- a blank entry alone has the key of zeros
+-- the key of zeros, which a blank entry has
 abbrev pub is_no_key : Key → Bool
 is_no_key key = (key.host == 0) && (key.start == 0) && (key.serial == 0)
 
@@ -72,10 +72,11 @@ most_entries = 64
 abbrev pub most_piece : ℕ
 most_piece = 65536
 
--- the term 0 stands before the first entry alone
+-- at index 0 the term is 0
 abbrev pub is_before : ℕ → ℕ → Bool
 is_before index term = not (index == 0) || (term == 0)
 
+-- an append: at the previous index 0 the previous term is 0, and there are at most 64 entries, which are well formed and have the indices after the previous one, below 2^64
 abbrev pub is_append : ℕ → ℕ → List Entry → Bool
 is_append prev prev_term es = is_before prev prev_term && nat_le (length es) most_entries && nat_lt (prev + length es) (2 ^ 64) && are_entries prev es
 
@@ -83,6 +84,7 @@ is_append prev prev_term es = is_before prev prev_term && nat_le (length es) mos
 abbrev pub is_end : ℕ → ℕ → Bool
 is_end index term = (is_before index term) && (not (term == 0) || (index == 0))
 
+-- a piece of a snapshot: the last term is 0 exactly where the index is, the number is from 1 to the count, which is at most 2^32 - 2, the size is from 1 to 65,536, and there are at most 65,536 bytes
 abbrev pub is_piece : ℕ → ℕ → ℕ → ℕ → ℕ → List ℕ → Bool
 is_piece index last_term number count size bytes =
     is_end index last_term && nat_le 1 number && nat_le number count && nat_lt (count + 1) (2 ^ 32)

@@ -1,8 +1,6 @@
 ghost use Rattle.std.specs.Prelude.{◌≡◌, IfOk};
 
-use crate::shared::SharedEntries;
-use host_ids::{Key, NoMemory, Proposal, Text};
-use std::alloc::Global;
+use host_ids::{Entries, Key, NoMemory, Proposal, Text};
 
 /// A message from one replica of a group to another.
 ///
@@ -50,7 +48,7 @@ pub enum Body {
         /// The leader's commit index.
         commit: u64,
         /// The entries from `prev` + 1 on.
-        entries: SharedEntries,
+        entries: Entries,
     },
     /// The answer to a leader that sent entries.
     AppendReply {
@@ -117,8 +115,8 @@ pub enum Body {
 }
 
 impl Envelope {
-    /// Another envelope of the same contents. The only error is want of memory.
-    pub fn copy(&self, alloc: Global) -> Result<Envelope, NoMemory>
+    /// Another envelope of the same contents. The only error is `NoMemory`.
+    pub fn copy(&self) -> Result<Envelope, NoMemory>
         ensures { IfOk result (λ copy. copy ≡ self.now) }
     {
         Ok(Envelope {
@@ -126,14 +124,14 @@ impl Envelope {
             to: self.to,
             group: self.group,
             term: self.term,
-            body: self.body.copy(alloc)?,
+            body: self.body.copy()?,
         })
     }
 }
 
 impl Body {
-    /// Another body of the same contents. The only error is want of memory.
-    pub fn copy(&self, _alloc: Global) -> Result<Body, NoMemory>
+    /// Another body of the same contents. The only error is `NoMemory`.
+    pub fn copy(&self) -> Result<Body, NoMemory>
         ensures { IfOk result (λ copy. copy ≡ self.now) }
     {
         match self {

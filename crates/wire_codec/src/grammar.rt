@@ -49,7 +49,7 @@ pub fn are_fit_numbers(client: u64, series: u64, responded: u64) -> bool
     1 <= client && 1 <= series && series <= MOST_SERIES && responded <= MOST_SERIES
 }
 
-/// Whether a proposal has a spelling: a command has 1 to 512 bytes, and the numbers of a session's are in
+/// Whether a proposal is well formed: a command has 1 to 512 bytes, and the numbers of a session's are in
 /// their ranges.
 pub fn is_proposal(proposal: &Proposal) -> bool
     ensures { result ≡ is_proposal proposal.now }
@@ -80,14 +80,14 @@ fn is_blank(proposal: &Proposal) -> bool
     }
 }
 
-/// Whether a key and a proposal are a request: both have a spelling, and the proposal is no blank.
+/// Whether a key and a proposal are a request: both are well formed, and the proposal is no blank.
 pub fn is_request(key: &Key, proposal: &Proposal) -> bool
     ensures { result ≡ is_request key.now proposal.now }
 {
     is_key(key) && is_proposal(proposal) && !is_blank(proposal)
 }
 
-/// Whether an entry has a spelling, whatever its index: its term is at least 1, and it is a request or a
+/// Whether an entry is well formed, whatever its index: its term is at least 1, and it is a request or a
 /// blank with the key of zeros.
 pub fn is_entry(entry: &Entry) -> bool
     ensures { result ≡ is_entry entry.now }
@@ -98,7 +98,7 @@ pub fn is_entry(entry: &Entry) -> bool
         && ((is_blank(&entry.proposal) && has_no_key) || is_request(key, &entry.proposal))
 }
 
-/// Whether entries have a spelling and the indices after `prev`, which lie below 2^64.
+/// Whether entries are well formed and the indices after `prev`, which lie below 2^64.
 pub fn are_entries(prev: u64, entries: &[Entry]) -> bool
     requires room { prev + length entries.now < 2 ^ 64 }
     ensures { result ≡ are_entries prev entries.now }
@@ -113,7 +113,8 @@ pub fn are_entries(prev: u64, entries: &[Entry]) -> bool
     true
 }
 
-/// Whether an append has a spelling: it has at most 64 entries, whose indices are below 2^64.
+/// Whether an append is well formed: the previous term is 0 where the previous index is 0, and it has at
+/// most 64 entries, which are well formed and have the indices after the previous one, below 2^64.
 fn is_append(prev: u64, prev_term: u64, entries: &[Entry]) -> bool
     ensures { result ≡ is_append prev prev_term entries.now }
 {
@@ -123,8 +124,9 @@ fn is_append(prev: u64, prev_term: u64, entries: &[Entry]) -> bool
         && are_entries(prev, entries)
 }
 
-/// Whether a piece of a snapshot has a spelling: its last term is 0 exactly where its index is, its number
-/// is 1 to its count of at most 2^32-2, its size 1 to 65,536, and it has at most 65,536 bytes.
+/// Whether a piece of a snapshot is well formed: the last term is 0 exactly where the index is 0, the
+/// number of the piece is from 1 to the count, the count is at most 2^32-2, the size by which the snapshot
+/// was cut is from 1 to 65,536, and the piece has at most 65,536 bytes.
 pub fn is_piece(
     index: u64,
     last_term: u64,
@@ -144,7 +146,7 @@ pub fn is_piece(
         && bytes.bytes().len() <= MOST_PIECE as usize
 }
 
-/// Whether a body has a spelling in an envelope of this term.
+/// Whether a body is well formed in an envelope of this term.
 fn is_body(term: u64, body: &Body) -> bool
     ensures { result ≡ is_body term body.now }
 {
@@ -174,8 +176,9 @@ fn is_body(term: u64, body: &Body) -> bool
     }
 }
 
-/// Whether an envelope has a spelling: its hosts are 1 to 9 and differ, its group is 1 to 64, its term is
-/// at least 1 and for a proposal, a read and its answer 0, and its body has a spelling.
+/// Whether an envelope is well formed: its two hosts are from 1 to 9 and differ, its group is from 1 to 64,
+/// and its body is well formed. Its term is 0 for a proposal, a read and the answer to a read, and at least
+/// 1 for every other kind.
 pub fn is_envelope(envelope: &Envelope) -> bool
     ensures { result ≡ is_envelope envelope.now }
 {

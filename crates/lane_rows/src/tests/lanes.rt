@@ -392,7 +392,7 @@ fn delivered(
     number: u64,
 ) -> Result<Vec<Note>, Fail> {
     assert!(rt; 1 <= number && number <= plain.wire.len() as u64);
-    let envelope = plain.wire[(number - 1) as usize].copy(alloc)?;
+    let envelope = plain.wire[(number - 1) as usize].copy()?;
     check(rt, &envelope);
     let place = envelope.to as usize - 1;
     assert!(rt; place < plain.replicas.len());

@@ -4,7 +4,7 @@ use Rattle.std.specs.Prelude.{not, nat_lt, nat_le, slice_set}
 use Rattle.std.proofs.lemmas.Bool.{ltb-true, leb-true, le-leb, le-ltb, lt-ltb, eq-eqb, not-true, and_parts, and_from}
 use Rattle.std.proofs.lemmas.List.{append-nil, length-set, set_past}
 use Rattle.host_ids.specs.declared.entry.Entry.{Entry}
-use Rattle.host_ids.specs.declared.entry.Batch.{Batch}
+use Rattle.host_ids.specs.declared.batch.Batch.{Batch}
 use Rattle.raft_model.specs.declared.saved.SavedState.{SavedState}
 use Rattle.wire_codec.specs.declared.envelope.Envelope.{Envelope}
 use Rattle.log_view.specs.Log.{Log, last, term_at, reset}

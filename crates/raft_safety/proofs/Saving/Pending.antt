@@ -1,7 +1,7 @@
 -- What happens at Saved looks at no pending batch: it may be taken off first.
 use Rattle.std.proofs.Common.{◌≡◌, ℕ, ◌+◌, List, [], ◌∷◌, Bool, true, false, refl, sym, ap, ◌∙◌, ◌==◌, ◌&&◌, if◌then◌else◌, Option, None}
 use Rattle.std.specs.Prelude.{nat_lt, nat_le, slice_set}
-use Rattle.host_ids.specs.declared.entry.Batch.{Batch}
+use Rattle.host_ids.specs.declared.batch.Batch.{Batch}
 use Rattle.host_ids.specs.declared.proposal.Proposal.TheVariants as proposals
 use Rattle.raft_model.specs.declared.state.State.{State as Replica}
 use Rattle.raft_model.specs.declared.state.Pending.{Pending}

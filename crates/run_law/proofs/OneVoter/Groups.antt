@@ -7,7 +7,7 @@ use Rattle.std.proofs.lemmas.List.{take-append-le, length-take, get_or-set_same,
 use Rattle.std.proofs.Math.Seq.{take-append-add}
 use Rattle.host_ids.specs.declared.entry.Key.{Key}
 use Rattle.host_ids.specs.declared.entry.Entry.{Entry}
-use Rattle.host_ids.specs.declared.entry.Batch.{Batch}
+use Rattle.host_ids.specs.declared.batch.Batch.{Batch}
 use Rattle.host_ids.specs.declared.proposal.Proposal.{Proposal}
 use Rattle.raft_model.specs.declared.state.State.{State as Replica}
 use Rattle.raft_model.specs.declared.state.Pending.{Pending}

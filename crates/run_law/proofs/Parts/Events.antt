@@ -5,7 +5,7 @@ use Rattle.std.specs.List.{AllByRecursion, list_any}
 use Rattle.std.proofs.lemmas.Bool.{cond_both}
 use Rattle.std.proofs.lemmas.List.{length-set}
 use Rattle.std.proofs.lemmas.List.Elements.{All-from_recursion, recursion_from_All, All-contains}
-use Rattle.host_ids.specs.declared.entry.Batch.{Batch}
+use Rattle.host_ids.specs.declared.batch.Batch.{Batch}
 use Rattle.host_ids.specs.declared.entry.Key.{Key}
 use Rattle.host_ids.specs.declared.entry.Entry.{Entry}
 use Rattle.host_ids.specs.declared.proposal.Proposal.{Proposal}

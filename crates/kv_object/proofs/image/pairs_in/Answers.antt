@@ -15,8 +15,7 @@ returns-in_err-found-clause-not_image c = λ place h.
 pub loop-preserved : goal.loop-preserved
 loop-preserved c =
     let found = c.in_ok-found.found in
-    let entries : c.insert.new.self.entries ≡ insert_entry key_order c.loop.held.entries found.key.now found.value.now =
-    c.in_ok-insert.ensures.entries ∙ (λ i. insert_entry key_order c.loop.held.entries (c.in_ok-new.ensures i) (c.in_ok-new-2.ensures i)) in
+    let entries : c.put_pair.new.held.entries ≡ insert_entry key_order c.loop.held.entries found.key.now found.value.now = c.in_ok-put_pair.ensures in
     rw entries (goes_on _ _ c.args.count c.loop.counter c.loop.at c.loop.held.entries (option_copied c.loop.before) c.loop.rest.now found.key.now found.value.now found.rest.now c.loop-test.true
     (record { step = c.in_ok-found.ensures.pair; next = c.in_ok-found.ensures.next; room = c.in_ok-found.ensures.room }) c.loop.invariant)
 

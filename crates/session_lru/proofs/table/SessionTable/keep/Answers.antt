@@ -6,7 +6,7 @@ use Rattle.session_lru.specs.Table.{Table}
 use Rattle.session_lru.specs.Law.{StandsFor}
 use Rattle.session_lru.proofs.Exits.{on_ok, on_err}
 use Rattle.session_lru.proofs.Keeping.{keep_stands}
-use Rattle.session_lru.proofs.table.SessionTable.keep.Goals.{in-Some, in-None}
+use Rattle.session_lru.proofs.table.SessionTable.keep.Goals.{in-Some, in-None+in-Long-1, in-None+in-Short-1}
 use Rattle.session_lru.proofs.Tables.{limit_one, is_found, set_table, kept_either}
 use Rattle.session_lru.proofs.Parts.{table_parts}
 use Rattle.session_lru.proofs.Putting.{same_value}
@@ -20,7 +20,8 @@ returns-clause-err c = elim c.match-peek_mut.branch [
   | in-Some w ↦ (let there : lookup (nat_eq c.args.client) c.self.inside.cache.entries ≡ Some w.in-Some.session.now = sym w.in-Some.ensures.value in
       rw (w.result-is, w.self-inside-is) (on_err w.keep.result w.keep.ensures.err
       (λ e. rw (e, ← c.self.view_is, set_value_same (nat_eq c.args.client) c.self.inside.cache.entries w.in-Some.session.now there) refl)))
-  | in-None w ↦ rw w.result-is tt
+  | in-None+in-Long-1 w ↦ rw w.result-is tt
+  | in-None+in-Short-1 w ↦ rw w.result-is tt
 ]
 
 pub returns-clause-stands : goal.returns-clause-stands
@@ -44,5 +45,6 @@ invariant_of-self c =
           let one = is_found c.args.client es s there (table_parts t c.self.invariant).sessions in
           rw w.self-inside-is (set_table c.args.client _ t c.self.invariant
           (kept_either w.keep.result c.args.client c.args.series c.args.reply s _ w.keep.ensures.ok w.keep.ensures.few w.keep.ensures.err one above c.requires.series_in.1 c.requires.may.short)))
-      | in-None w ↦ rw w.self-inside-is c.self.invariant
+      | in-None+in-Long-1 w ↦ rw w.self-inside-is c.self.invariant
+      | in-None+in-Short-1 w ↦ rw w.self-inside-is c.self.invariant
     ]

@@ -1,4 +1,4 @@
-ghost use Rattle.std.specs.Prelude.{◌≡◌, IfErr, None};
+ghost use Rattle.std.specs.Prelude.{◌≡◌, IfErr};
 ghost use Rattle.std.specs.Io.{ReadsAtMost, WritesAtMost};
 ghost use Rattle.std.specs.Io.KnownBytes.{ReadConsumes, WriteAppends};
 ghost use Rattle.fault_io.specs.Faults.{CountsFaults, HasCause, TakesSome};
@@ -11,8 +11,9 @@ use std::io::{Read, Write};
 
 /// A source over a reader of std, such as a file or a socket.
 ///
-/// This is the trusted edge: what the reader gives is taken as what was there to read, and no
-/// proof covers it. So it tells none of the bytes that are left. Source: this project's own.
+/// It tells the bytes that are left where its reader does, as one over a slice. A file, a socket or
+/// standard input tells none: there is the trusted edge, where what the reader gives is taken as what
+/// was there to read. Source: this project's own.
 #[derive(Drop)]
 pub struct StdSource<R> {
     reader: R,
@@ -34,12 +35,12 @@ impl<R: Read> StdSource<R> {
 impl<R: Read> Source for StdSource<R> {
     ghost use Rattle.fault_io.specs.Standard.{source_reader, reader_faults};
 
-    ghost left = { λ _. None };
+    ghost left = { λ s. R.remaining s.reader };
 
     ghost fault_count = { λ s. s.failed };
 
     /// Asks the reader once, and answers what it answers. The count is within the buffer, and the
-    /// bytes at the front of `into` are the reader's next ones, where the reader tells those.
+    /// bytes at the front of `into` are the reader's next ones, where it tells those.
     ///
     /// Any error of the reader is `Failed`, an interrupted call too, which is not tried again; the
     /// count of faults then rises by one unless it stands at 2^64-1. There is no other error, and
@@ -47,7 +48,7 @@ impl<R: Read> Source for StdSource<R> {
     fn take(&mut self, into: &mut [u8]) -> Result<usize, IoFault>
         ensures bound { ReadsAtMost result into.new }
         ensures cause { HasCause (reader_faults self.old) (reader_faults self.new) result }
-        ensures passed { ReadConsumes (R.remaining (source_reader self.old)) (R.remaining (source_reader self.new)) result into.new }
+        ensures bytes { ReadConsumes (R.remaining (source_reader self.old)) (R.remaining (source_reader self.new)) result into.new }
         ensures only { IfErr result (λ e. e ≡ Failed) }
         ensures faults { CountsFaults (reader_faults self.old) (reader_faults self.new) result }
     {
@@ -67,9 +68,9 @@ impl<R: Read> Source for StdSource<R> {
 
 /// A sink over a writer of std, such as a file or a socket.
 ///
-/// This is the trusted edge: what the writer says that it took is taken as written, and no proof
-/// covers it. So it tells none of the bytes that were written. Nothing is flushed. Source: this
-/// project's own.
+/// It tells the bytes that were written where its writer does, as one over a vector. A file, a socket
+/// or standard output tells none: there is the trusted edge, where what the writer says that it took is
+/// taken as written. Nothing is flushed. Source: this project's own.
 #[derive(Drop)]
 pub struct StdSink<W> {
     writer: W,
@@ -91,7 +92,7 @@ impl<W: Write> StdSink<W> {
 impl<W: Write> Sink for StdSink<W> {
     ghost use Rattle.fault_io.specs.Standard.{sink_writer, writer_faults};
 
-    ghost contents = { λ _. None };
+    ghost contents = { λ s. W.contents s.writer };
 
     ghost fault_count = { λ s. s.failed };
 
@@ -106,7 +107,7 @@ impl<W: Write> Sink for StdSink<W> {
         ensures bound { WritesAtMost result piece.now }
         ensures some { TakesSome result piece.now }
         ensures cause { HasCause (writer_faults self.old) (writer_faults self.new) result }
-        ensures passed { WriteAppends (W.contents (sink_writer self.old)) (W.contents (sink_writer self.new)) result piece.now }
+        ensures bytes { WriteAppends (W.contents (sink_writer self.old)) (W.contents (sink_writer self.new)) result piece.now }
         ensures only { IfErr result (λ e. e ≡ Failed) }
         ensures faults { CountsFaults (writer_faults self.old) (writer_faults self.new) result }
     {

@@ -1,7 +1,7 @@
 -- The lines of a script, and what each is as bytes. Source: this project's own.
-use Rattle.std.specs.Prelude.{ℕ, ◌+◌, ◌-◌, ◌^◌, ◌∷◌, ◌++◌, [], List, ◌==◌, ◌&&◌, ◌||◌, Bool, true, false, Option, Some, None, codes, bytes_eq, nat_lt, nat_le, length, if◌then◌else◌}
+use Rattle.std.specs.Prelude.{ℕ, ◌-◌, ◌^◌, ◌∷◌, [], List, ◌==◌, ◌&&◌, ◌||◌, Bool, true, false, Option, Some, None, codes, bytes_eq, nat_lt, nat_le, length, if◌then◌else◌}
 use Rattle.std.specs.List.{slice_split}
-use Rattle.std.specs.Option.{is_some}
+use Rattle.std.specs.Option.{is_some, option_map}
 use Rattle.host_ids.specs.declared.kind.Kind.TheVariants as kinds
 use Rattle.run_model.specs.declared.script.ScriptLine.{ScriptLine}
 use Rattle.run_model.specs.declared.script.ScriptLine.TheVariants as lines
@@ -56,24 +56,33 @@ host_at words place = positive (number_of 9 (word words place))
 abbrev pub host_line : List (List ℕ) → Option ScriptLine
 host_line words = by_number (host_at words 1) (λ host. Some (lines.Host host))
 
--- the digit of a host after the last one
-abbrev pub is_later : ℕ → ℕ → Bool
-is_later low b = nat_lt (low + 48) b && nat_le b 57
+-- a number that is greater than the last one
+abbrev pub above : ℕ → Option ℕ → Option ℕ
+above low None = None
+above low (Some n) = if nat_lt low n then Some n else None
 
--- hosts with commas between, ascending: after a host comes a comma, else a host after the last one
-abbrev pub roster_on : Bool → ℕ → List ℕ → List ℕ → Option (List ℕ)
-roster_on after low found [] = if after then Some found else None
-roster_on after low found (b ∷ bs) =
-    if after then (if b == 44 then roster_on false low found bs else None)
-    else (if is_later low b then roster_on true (b - 48) (found ++ (b - 48) ∷ []) bs else None)
+-- the host after the last one, 1 to 9, that a text is
+abbrev pub next_host : ℕ → List ℕ → Option ℕ
+next_host low text = above low (number_of 9 text)
+
+-- a host, and those after it
+abbrev pub host_before : Option ℕ → (ℕ → Option (List ℕ)) → Option (List ℕ)
+host_before None more = None
+host_before (Some host) more = option_map (λ hosts. host ∷ hosts) (more host)
+
+-- texts that are hosts, each greater than the last one
+abbrev pub ascending : ℕ → List (List ℕ) → Option (List ℕ)
+ascending low [] = Some []
+ascending low (text ∷ texts) = host_before (next_host low text) (λ host. ascending host texts)
 
 -- the voters of a group, 1 to 7
 abbrev pub few_of : Option (List ℕ) → Option (List ℕ)
 few_of None = None
 few_of (Some hosts) = if nat_le (length hosts) 7 then Some hosts else None
 
+-- hosts between commas, ascending
 abbrev pub roster_of : List ℕ → Option (List ℕ)
-roster_of text = few_of (roster_on false 0 [] text)
+roster_of text = few_of (ascending 0 (slice_split (λ b. b == 44) text))
 
 abbrev pub group_by : Option (List ℕ) → Option ℕ → Option ScriptLine
 group_by None limit = None

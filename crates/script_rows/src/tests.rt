@@ -1,5 +1,6 @@
 ghost use Rattle.std.specs.Prelude.{Some, drop};
 
+mod answers;
 mod elections;
 mod hosts;
 mod refusals;
@@ -216,7 +217,7 @@ fn faults_and_other_words(rt: HostRuntime) -> Result<(), Fail> {
         ("run", &[1u64] as &[u64], none, 4, ""),
         ("run", &[2], none, 0, printed),
         ("walk", none, none, 2, "usage\n"),
-        ("walk", none, &[1], 2, ""),
+        ("walk", none, &[1], 5, ""),
     ] {
         let (status, text) = run(&rt, word, script, source, sink)?;
         assert_eq!(rt; status.number, number, "{word} {source:?} {sink:?}");

@@ -6,3 +6,4 @@ pub mod Parts
 pub mod Runs
 pub mod Streams
 pub mod Exact
+pub mod Rosters

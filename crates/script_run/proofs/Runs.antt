@@ -14,7 +14,7 @@ use Rattle.run_model.specs.declared.told.Stop.TheVariants.{Ended, Bad, Full, Spe
 use Rattle.run_model.specs.World.{World}
 use Rattle.run_model.specs.Script.{read_line, parts_of, is_end, setup_after}
 use Rattle.run_model.specs.Run.{Outcome, run, text_of, told_before, stops, turn, most_bytes, most_entries, most_envelopes, reached}
-use Rattle.script_run.specs.Reach.{Reaches, Ahead, HasNoFeed}
+use Rattle.script_run.specs.Reach.{ComesTo, Ahead, HasNoFeed}
 use Rattle.script_run.proofs.Parts.{has_parts, joined_parts, lone_part}
 
 pub text_of-append : (a b : List Told) → text_of (a ++ b) ≡ text_of a ++ text_of b
@@ -36,13 +36,13 @@ told_ahead : (told : List Told) (rest : Outcome) → Ahead (text_of told) rest (
 told_ahead told rest = record { stop = refl; world = refl; whole = sym (text_of-append told rest.told) }
 
 -- where the rest is no more than a stop
-pub ends : (done : List ℕ) (rest total : Outcome) (w : World) (s : Stop) → Ahead done rest total → rest ≡ stops w s → Reaches done total s w
+pub ends : (done : List ℕ) (rest total : Outcome) (w : World) (s : Stop) → Ahead done rest total → rest ≡ stops w s → ComesTo done total s w
 ends done rest total w s a e =
     let none : text_of rest.told ≡ [] = rw e refl in
     record { stop_is = rw e at a.stop; world_is = rw e at a.world; told = sym (append-nil done) ∙ rw none at a.whole }
 
 -- where the rest reaches a stop
-pub reaches_on : (done more : List ℕ) (rest total : Outcome) (w : World) (s : Stop) → Ahead done rest total → Reaches more rest s w → Reaches (done ++ more) total s w
+pub reaches_on : (done more : List ℕ) (rest total : Outcome) (w : World) (s : Stop) → Ahead done rest total → ComesTo more rest s w → ComesTo (done ++ more) total s w
 reaches_on done more rest total w s a r = record {
   stop_is = r.stop_is ∙ a.stop;
   world_is = r.world_is ∙ a.world;
@@ -119,7 +119,7 @@ next_ahead done setup w n size text line rest said total a p h e t f =
 -- a limit is reached in a line
 pub full_reached : (done : List ℕ) (setup : Setup) (w : World) (n size : ℕ) (text line rest : List ℕ) (said : ScriptLine) (limit : Limit) (total : Outcome) → Ahead done (run setup w n size (parts_of text)) total → parts_of text ≡ line ∷ parts_of rest
     → reached w size ≡ None → read_line setup line ≡ Some said → is_end said ≡ false → (turn said (size + (length line + 1)) w).full ≡ Some limit
-    → Reaches (done ++ text_of (turn said (size + (length line + 1)) w).told) total (Full limit) (turn said (size + (length line + 1)) w).world
+    → ComesTo (done ++ text_of (turn said (size + (length line + 1)) w).told) total (Full limit) (turn said (size + (length line + 1)) w).world
 full_reached done setup w n size text line rest said limit total a p h e t f =
     let said_turn = turn said (size + (length line + 1)) w in
     let next = ap (run setup w n size) p ∙ at_full setup w n size line rest said limit h e t f in

@@ -1,14 +1,15 @@
 -- A run over a source that is under way: what was taken, what is held of it, and what was told.
-use Rattle.std.proofs.Common.{◌≡◌, ℕ, ◌+◌, ◌<◌, ◌≤◌, List, [], ◌++◌, Option, None, Some, length, refl, sym, ap, ◌∙◌, append_assoc, length-append, arith}
+use Rattle.std.proofs.Common.{◌≡◌, ℕ, ◌+◌, ◌<◌, ◌≤◌, List, [], ◌++◌, Option, None, Some, length, refl, sym, ap, ◌∙◌, append_assoc, length-append, arith, subst}
 use Rattle.std.specs.Io.KnownBytes.{Appends, Consumes, Keeps}
 use Rattle.std.proofs.lemmas.List.{append-nil}
 use Rattle.fault_io.specs.Faults.{WritesFront}
 use Rattle.fault_io.proofs.Known.{Appends-append, Appends-none}
 use Rattle.run_model.specs.declared.told.Stop.{Stop}
+use Rattle.run_model.specs.declared.told.Stop.TheVariants.{Spent}
 use Rattle.run_model.specs.declared.script.Setup.TheVariants as setups
 use Rattle.run_model.specs.World.{World, start}
-use Rattle.run_model.specs.Run.{Outcome, outcome_of, text_of, reached}
-use Rattle.script_run.specs.Reach.{Ahead, HasNoFeed, Place, run_on, Leaves, StopsAt, Stopped, IsCut, GivenUp}
+use Rattle.run_model.specs.Run.{Outcome, outcome_of, text_of, reached, stops}
+use Rattle.script_run.specs.Reach.{Ahead, ComesTo, HasNoFeed, Place, run_on, Leaves, StopsAt, Stopped, IsCut, GivenUp, IsPrompt, IsSpent}
 use Rattle.script_run.proofs.Runs.{no_way, further, ends, at_last, reached_below, reaches_on, Consumes-append, Consumes-kept}
 
 pub record Under (left_old left old now : Option (List ℕ)) (p : Place) (held script done : List ℕ) : Type 0 where
@@ -58,21 +59,72 @@ front_of done told rest total old now new a w tail e f = (
   Appends-append old now new done f.0 w f.3,
 )
 
+-- all that was taken is lines whose run goes on, and they are written
+pub record Waits (script : List ℕ) (old now : Option (List ℕ)) : Type 0 where
+  pub goes_on : IsSpent (outcome_of script).stop
+  pub written : Appends old now (text_of (outcome_of script).told)
+
+-- less than a line is held, and no limit is reached
+ends_here : (left_old left old now : Option (List ℕ)) (p : Place) (held script done : List ℕ) → Under left_old left old now p held script done → HasNoFeed held → length held ≤ 4096 → reached p.world p.size ≡ None
+    → ComesTo done (outcome_of script) (Spent (p.lines + 1)) p.world
+ends_here left_old left old now p held script done u f s b = ends done (run_on p held) (outcome_of script) p.world _ (rw (append-nil held, append-nil script) at (u.ahead [])) (at_last p.setup p.world p.lines p.size held b f s)
+
+pub waits : (left_old left old now : Option (List ℕ)) (p : Place) (held script done : List ℕ) → Under left_old left old now p held script done → HasNoFeed held → length held ≤ 4096 → reached p.world p.size ≡ None → Waits script old now
+waits left_old left old now p held script done u f s b =
+    let r = ends_here left_old left old now p held script done u f s b in
+    record { goes_on = subst IsSpent r.stop_is tt; written = rw (← r.told) u.written }
+
+-- where nothing more was taken or written
+pub prompt_here : (script : List ℕ) (old now : Option (List ℕ)) → Waits script old now → IsPrompt script old now
+prompt_here script old now w = record {
+  before = script;
+  piece = [];
+  parts = sym (append-nil script);
+  small = omega arith;
+  goes_on = w.goes_on;
+  more = [];
+  written = rw append-nil w.written;
+}
+
+-- a piece more was taken
+pub prompt_piece : (script piece : List ℕ) (old now : Option (List ℕ)) → Waits script old now → length piece ≤ 8192 → IsPrompt (script ++ piece) old now
+prompt_piece script piece old now w h = record {
+  before = script;
+  piece = piece;
+  parts = refl;
+  small = h;
+  goes_on = w.goes_on;
+  more = [];
+  written = rw append-nil w.written;
+}
+
+-- something more was written
+pub prompt_more : (script told : List ℕ) (old now new : Option (List ℕ)) → IsPrompt script old now → Appends now new told → IsPrompt script old new
+prompt_more script told old now new p a = record {
+  before = p.before;
+  piece = p.piece;
+  parts = p.parts;
+  small = p.small;
+  goes_on = p.goes_on;
+  more = p.more ++ told;
+  written = rw (← append_assoc (text_of (outcome_of p.before).told) p.more told) (Appends-append old now new (text_of (outcome_of p.before).told ++ p.more) told p.written a);
+}
+
 -- given up before anything more was put
-pub gave_up_here : (left_old left old now : Option (List ℕ)) (p : Place) (held script done : List ℕ) → Under left_old left old now p held script done → length script < 67121153 → GivenUp left_old left old now
-gave_up_here left_old left old now p held script done u h = record {
+pub gave_up_here : (left_old left old now : Option (List ℕ)) (p : Place) (held script done : List ℕ) → Under left_old left old now p held script done → length script < 67121153 → IsPrompt script old now → GivenUp left_old left old now
+gave_up_here left_old left old now p held script done u h t = record {
   script = script;
-  taken = record { taken = u.taken; few = h };
-  front = λ more. front_of done [] (run_on p (held ++ more)) (outcome_of (script ++ more)) old now now (u.ahead more) u.written (text_of (run_on p (held ++ more)).told) refl ([], [], refl, Appends-none now);
+  taken = record { taken = u.taken; few = h; prompt = t };
+  front = rw append-nil at (front_of done [] (run_on p (held ++ [])) (outcome_of (script ++ [])) old now now (u.ahead []) u.written (text_of (run_on p (held ++ [])).told) refl ([], [], refl, Appends-none now));
 }
 
 -- given up while the lines of a piece were put
-pub gave_up : (left_old left old now new : Option (List ℕ)) (p q : Place) (held rest script done told : List ℕ) → Under left_old left old now p held script done → length script < 67121153 → Leaves told p held q rest → WritesFront now new told
+pub gave_up : (left_old left old now new : Option (List ℕ)) (p q : Place) (held rest script done told : List ℕ) → Under left_old left old now p held script done → length script < 67121153 → IsPrompt script old now → Leaves told p held q rest → WritesFront now new told
     → GivenUp left_old left old new
-gave_up left_old left old now new p q held rest script done told u h l f = record {
+gave_up left_old left old now new p q held rest script done told u h t l f = record {
   script = script;
-  taken = record { taken = u.taken; few = h };
-  front = λ more. front_of done told (run_on p (held ++ more)) (outcome_of (script ++ more)) old now new (u.ahead more) u.written (text_of (run_on q (rest ++ more)).told) (sym (l.ahead more).whole) f;
+  taken = record { taken = u.taken; few = h; prompt = prompt_more script f.0 old now new t f.3 };
+  front = rw append-nil at (front_of done told (run_on p (held ++ [])) (outcome_of (script ++ [])) old now new (u.ahead []) u.written (text_of (run_on q (rest ++ [])).told) (sym (l.ahead []).whole) f);
 }
 
 -- the lines of a piece were put
@@ -85,30 +137,47 @@ went_on left_old left old now new p q held rest script done told u l w = record 
   sizes = l.sizes ∙ u.sizes;
 }
 
-pub stopped_here : (left_old left old now : Option (List ℕ)) (p : Place) (held script done told : List ℕ) (stop : Stop) (world : World) → Under left_old left old now p held script done → length script < 67121153
+pub stopped_here : (left_old left old now : Option (List ℕ)) (p : Place) (held script done told : List ℕ) (stop : Stop) (world : World) → Under left_old left old now p held script done → length script < 67121153 → IsPrompt script old now
     → StopsAt told p held stop world → Stopped left_old left old now stop world told
-stopped_here left_old left old now p held script done told stop world u h s = record {
+stopped_here left_old left old now p held script done told stop world u h t s = record {
   script = script;
-  taken = record { taken = u.taken; few = h };
+  taken = record { taken = u.taken; few = h; prompt = t };
   done = done;
   written = u.written;
-  reached = λ more. reaches_on done told (run_on p (held ++ more)) (outcome_of (script ++ more)) world stop (u.ahead more) (s more);
+  own = s.own;
+  reached = λ more. reaches_on done told (run_on p (held ++ more)) (outcome_of (script ++ more)) world stop (u.ahead more) (s.reached more);
 }
 
 pub cut_here : (left_old left old now : Option (List ℕ)) (p : Place) (held script done : List ℕ) → Under left_old left old now p held script done → HasNoFeed held → length held ≤ 4096 → reached p.world p.size ≡ None
     → IsCut left_old left old now (p.lines + 1) p.world
 cut_here left_old left old now p held script done u f s b = record {
   script = script;
-  taken = record { taken = u.taken; few = omega (arith, u.sizes, s, reached_below p.world p.size b) };
+  taken = record { taken = u.taken; few = omega (arith, u.sizes, s, reached_below p.world p.size b); prompt = prompt_here script old now (waits left_old left old now p held script done u f s b) };
   done = done;
   written = u.written;
-  reached = ends done (run_on p held) (outcome_of script) p.world _ (rw (append-nil held, append-nil script) at (u.ahead [])) (at_last p.setup p.world p.lines p.size held b f s);
+  reached = ends_here left_old left old now p held script done u f s b;
+}
+
+-- the run over nothing stands before its first line
+nothing_said : outcome_of [] ≡ stops start (Spent 1)
+nothing_said = at_last setups.Single start 0 0 [] (begins_within start 0 refl refl) tt (omega arith)
+
+-- nothing was taken
+nothing_taken : (old : Option (List ℕ)) → IsPrompt [] old old
+nothing_taken old = record {
+  before = [];
+  piece = [];
+  parts = refl;
+  small = omega arith;
+  goes_on = subst (λ (o : Outcome). IsSpent o.stop) (sym nothing_said) tt;
+  more = [];
+  written = subst (λ (o : Outcome). Appends old old (text_of o.told ++ [])) (sym nothing_said) (Appends-none old);
 }
 
 -- given up before anything was taken
 pub nothing_done : (left old : Option (List ℕ)) → GivenUp left left old old
 nothing_done left old = record {
   script = [];
-  taken = record { taken = Consumes-none left; few = omega arith };
-  front = λ more. ([], text_of (outcome_of more).told, refl, Appends-none old);
+  taken = record { taken = Consumes-none left; few = omega arith; prompt = nothing_taken old };
+  front = ([], text_of (outcome_of []).told, refl, Appends-none old);
 }

@@ -12,8 +12,8 @@ is_due applied [] = false
 is_due applied (r ∷ rs) = nat_le r.front applied
 
 -- a replica in this role leads
-abbrev pub leads : Role → Bool
-leads role = elim role as (λ _. Bool) [ Follower ↦ false | Candidate ↦ false | Leader ↦ true ]
+abbrev pub is_leading : Role → Bool
+is_leading role = elim role as (λ _. Bool) [ Follower ↦ false | Candidate ↦ false | Leader ↦ true ]
 
 -- memory ran out, which is no refusal
 abbrev pub is_memory : LaneFault → Bool

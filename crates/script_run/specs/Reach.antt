@@ -5,13 +5,13 @@ use Rattle.std.specs.Io.KnownBytes.{Appends, Consumes}
 use Rattle.fault_io.specs.Faults.{WritesFront}
 use Rattle.run_model.specs.declared.script.Setup.{Setup}
 use Rattle.run_model.specs.declared.told.Stop.{Stop}
-use Rattle.run_model.specs.declared.told.Stop.TheVariants.{Spent}
+use Rattle.run_model.specs.declared.told.Stop.TheVariants.{Ended, Bad, Full, Spent}
 use Rattle.run_model.specs.World.{World}
 use Rattle.run_model.specs.Script.{parts_of}
 use Rattle.run_model.specs.Run.{Outcome, run, outcome_of, text_of, most_bytes, reached}
 
 -- the stop and the world of this outcome, and these are its lines
-pub record Reaches (done : List ℕ) (total : Outcome) (stop : Stop) (world : World) : Type 0 where
+pub record ComesTo (done : List ℕ) (total : Outcome) (stop : Stop) (world : World) : Type 0 where
   pub stop_is : stop ≡ total.stop
   pub world_is : world ≡ total.world
   pub told : done ≡ text_of total.told
@@ -45,33 +45,53 @@ pub record Leaves (done : List ℕ) (before : Place) (text : List ℕ) (after : 
   pub sizes : after.size + length rest ≡ before.size + length text
   pub counts : after.lines ≤ after.size
 
--- the run stops in the text, whatever comes
-abbrev pub StopsAt : List ℕ → Place → List ℕ → Stop → World → Type 0
-StopsAt done before text stop world = (more : List ℕ) → Reaches done (run_on before (text ++ more)) stop world
+-- the lines were spent before an end came
+abbrev pub IsSpent : Stop → Type 0
+IsSpent Ended = ⊥
+IsSpent (Bad line) = ⊥
+IsSpent (Full limit) = ⊥
+IsSpent (Spent line) = Unit {0}
 
--- these bytes were taken from a source, and they are few
-pub record Taken (left_old left_new : Option (List ℕ)) (script : List ℕ) : Type 0 where
+-- the run stops in the text, whatever comes
+pub record StopsAt (done : List ℕ) (before : Place) (text : List ℕ) (stop : Stop) (world : World) : Type 0 where
+  pub own : ¬ IsSpent stop
+  pub reached : (more : List ℕ) → ComesTo done (run_on before (text ++ more)) stop world
+
+-- but for a last piece of at most 8,192 bytes, what was taken is lines whose run goes on, and all that they tell was written, and then perhaps more
+pub record IsPrompt (taken : List ℕ) (old now : Option (List ℕ)) : Type 0 where
+  pub before : List ℕ
+  pub piece : List ℕ
+  pub parts : taken ≡ before ++ piece
+  pub small : length piece ≤ 8192
+  pub goes_on : IsSpent (outcome_of before).stop
+  pub more : List ℕ
+  pub written : Appends old now (text_of (outcome_of before).told ++ more)
+
+-- these bytes were taken from a source, they are few, and what they tell was written in time
+pub record Taken (left_old left_new old now : Option (List ℕ)) (script : List ℕ) : Type 0 where
   pub taken : Consumes left_old left_new script
   pub few : length script < 67121153
+  pub prompt : IsPrompt script old now
 
 -- a run over what was taken, which stops whatever comes; so much of its lines isn't put yet
 pub record Stopped (left_old left_new old now : Option (List ℕ)) (stop : Stop) (world : World) (unput : List ℕ) : Type 0 where
   pub script : List ℕ
-  pub taken : Taken left_old left_new script
+  pub taken : Taken left_old left_new old now script
   pub done : List ℕ
   pub written : Appends old now done
-  pub reached : (more : List ℕ) → Reaches (done ++ unput) (outcome_of (script ++ more)) stop world
+  pub own : ¬ IsSpent stop
+  pub reached : (more : List ℕ) → ComesTo (done ++ unput) (outcome_of (script ++ more)) stop world
 
 -- a run over what was taken, of which the last line isn't whole
 pub record IsCut (left_old left_new old now : Option (List ℕ)) (line : ℕ) (world : World) : Type 0 where
   pub script : List ℕ
-  pub taken : Taken left_old left_new script
+  pub taken : Taken left_old left_new old now script
   pub done : List ℕ
   pub written : Appends old now done
-  pub reached : Reaches done (outcome_of script) (Spent line) world
+  pub reached : ComesTo done (outcome_of script) (Spent line) world
 
--- a run that was given up: a front of what it tells was written, whatever comes
+-- a run that was given up: a front of what it tells was written
 pub record GivenUp (left_old left_new old now : Option (List ℕ)) : Type 0 where
   pub script : List ℕ
-  pub taken : Taken left_old left_new script
-  pub front : (more : List ℕ) → WritesFront old now (text_of (outcome_of (script ++ more)).told)
+  pub taken : Taken left_old left_new old now script
+  pub front : WritesFront old now (text_of (outcome_of script).told)

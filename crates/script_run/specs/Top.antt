@@ -1,6 +1,6 @@
 -- What the calls of a run promise.
-use Rattle.std.specs.Prelude.{◌≡◌, ◌≢◌, ◌<◌, ◌++◌, ℕ, List, [], ◌∷◌, ◌==◌, ◌&&◌, Bool, true, Option, codes, bytes_eq, length, slice_index_or, ◌⊎◌}
-use Rattle.std.specs.Io.KnownBytes.{Consumes, Appends}
+use Rattle.std.specs.Prelude.{◌≡◌, ◌≢◌, ◌<◌, ◌++◌, ℕ, List, [], ◌∷◌, ◌==◌, ◌&&◌, ◌↔◌, Bool, true, Option, None, Some, codes, bytes_eq, length, slice_index_or, ◌⊎◌}
+use Rattle.std.specs.Io.KnownBytes.{Consumes, Appends, IsAtEnd}
 use Rattle.fault_io.specs.Faults.{WritesFront}
 use Rattle.run_model.specs.declared.limit.Limit.{Limit}
 use Rattle.run_model.specs.declared.told.Stop.{Stop}
@@ -16,10 +16,10 @@ use Rattle.script_run.specs.declared.lines.Progress.TheVariants as progress
 use Rattle.script_run.specs.declared.stream.Streamed.{Streamed}
 use Rattle.script_run.specs.declared.stream.Streamed.TheVariants as streamed
 use Rattle.script_run.specs.World.{world_of}
-use Rattle.script_run.specs.Reach.{Place, Leaves, StopsAt, Stopped, IsCut}
+use Rattle.script_run.specs.Reach.{Place, Leaves, StopsAt, Stopped, IsCut, IsPrompt, IsSpent}
 
-abbrev pub place_of : Runner → Place
-place_of r = record { setup = r.setup; world = world_of r.world; lines = r.lines; size = r.size }
+abbrev pub place_in : Runner → Place
+place_in r = record { setup = r.setup; world = world_of r.world; lines = r.lines; size = r.size }
 
 -- a text was run up to a stop, or up to less than a line, and its lines were printed
 abbrev pub HasGone : List ℕ → List ℕ → Place → List ℕ → Progress → Place → Type 0
@@ -46,16 +46,9 @@ status_of (Spent line) = 3
 abbrev pub StopsWith : List ℕ → ℕ → Type 0
 StopsWith text status = status_of (outcome_of text).stop ≡ status
 
--- the lines were spent before an end came
-abbrev pub IsSpent : Stop → Type 0
-IsSpent Ended = ⊥
-IsSpent (Bad line) = ⊥
-IsSpent (Full limit) = ⊥
-IsSpent (Spent line) = Unit {0}
-
 -- the run came to a stop of its own, and the answer says which
-abbrev pub IsAnswer : ℕ → Type 0
-IsAnswer number = (number ≡ 0) ⊎ ((number ≡ 3) ⊎ (number ≡ 7))
+abbrev pub HasStopped : ℕ → Type 0
+HasStopped number = (number ≡ 0) ⊎ ((number ≡ 3) ⊎ (number ≡ 7))
 
 -- the sink failed, or memory ran out
 abbrev pub IsBroken : ℕ → Type 0
@@ -63,59 +56,71 @@ IsBroken number = (number ≡ 5) ⊎ (number ≡ 8)
 
 -- a fault of the source or of the sink, or out of memory, came in place of the answer
 abbrev pub IsInstead : ℕ → Type 0
-IsInstead number = (number ≡ 4) ⊎ ((number ≡ 5) ⊎ (number ≡ 8))
+IsInstead number = (number ≡ 4) ⊎ IsBroken number
 
--- the answer is this one exactly where a fact holds, but for a usage, a fault or out of memory
+-- the answer is this one exactly where a fact holds, but for a fault or out of memory
 abbrev pub IsExactly : Type 0 → ℕ → ℕ → Type 0
-IsExactly P status number = (number ≡ status → P) × (P → (number ≡ status) ⊎ ((number ≡ 2) ⊎ IsInstead number))
+IsExactly P status number = IsInstead number ⊎ ((number ≡ status) ↔ P)
 
 -- the run over this input reaches no limit
 abbrev pub IsWithinLimits : List ℕ → Type 0
 IsWithinLimits input = (limit : Limit) → (outcome_of input).stop ≢ Full limit
 
--- a script of the grammar within the limits gives 0 or out of memory, where neither the source nor the sink fails
-abbrev pub IsComplete : List ℕ → Type 0 → Type 0 → ℕ → Type 0
-IsComplete input SourceFailed SinkFailed number = is_script input ≡ true → IsWithinLimits input → ¬ SourceFailed → ¬ SinkFailed → (number ≡ 0) ⊎ (number ≡ 8)
-
 -- some bytes were taken, fewer than so many
 abbrev pub Takes : Option (List ℕ) → Option (List ℕ) → ℕ → Type 0
 Takes old new most = (bytes : List ℕ) × Consumes old new bytes × (length bytes < most)
 
--- the run over all of this input stops with the answer, or something came instead; what was written is all that it writes, or a front of it; it is legal for each group
-pub record HasRun (input : List ℕ) (old now : Option (List ℕ)) (number : ℕ) : Type 0 where
-  pub settled : IsInstead number ⊎ (number ≡ status_of (outcome_of input).stop)
-  pub written : IsAnswer number → Appends old now (output_of input)
-  pub front : IsBroken number → WritesFront old now (output_of input)
-  pub legal : (group : ℕ) → IsLegalSoFar group input
-  pub ended : number ≡ 0 → (group : ℕ) → IsLegalAtEnd group input
+-- what the source had: what was taken, and what is left, where the source tells that
+abbrev pub input_of : List ℕ → Option (List ℕ) → List ℕ
+input_of taken None = taken
+input_of taken (Some left) = taken ++ left
 
--- all that the run over this input writes was written; before the last lines it is legal for each group by the decided list of the world that was reached
-pub record WritesAll (input : List ℕ) (old now : Option (List ℕ)) : Type 0 where
-  pub written : Appends old now (output_of input)
-  pub legal : (group : ℕ) → IsLegalSoFar group input
+-- these bytes were written, and the status is this one, or the sink failed or memory ran out, and a front of them was written
+abbrev pub HasPut : Option (List ℕ) → Option (List ℕ) → List ℕ → ℕ → ℕ → Type 0
+HasPut old now bytes status number = ((number ≡ status) × Appends old now bytes) ⊎ (IsBroken number × WritesFront old now bytes)
 
--- a front of what the run over this input writes was written, and that is legal for each group
-pub record WritesSome (input : List ℕ) (old now : Option (List ℕ)) : Type 0 where
-  pub written : WritesFront old now (output_of input)
-  pub legal : (group : ℕ) → IsLegalSoFar group input
-
--- the run over what was taken stops in the midst of its lines, and what was written is what it tells, which is legal for each group
-pub record WasCut (left_old left_new old now : Option (List ℕ)) : Type 0 where
-  pub script : List ℕ
-  pub taken : Consumes left_old left_new script
-  pub cut : IsSpent (outcome_of script).stop
-  pub written : Appends old now (text_of (outcome_of script).told)
-  pub legal : (group : ℕ) → IsLegalSoFar group script
-
--- the main sentence: the whole output of the run over this input was written, and it is legal for each group by the entries that it shows
-pub record IsLegalRun (input : List ℕ) (old now : Option (List ℕ)) : Type 0 where
-  pub written : Appends old now (output_of input)
-  pub legal : (group : ℕ) → IsLegalAtEnd group input
-
--- the last lines of a stop were written after these bytes, or after a fault a front of both
+-- the last lines of a stop were written after these bytes, or a front of both
 abbrev pub Finished : Option (List ℕ) → Option (List ℕ) → List ℕ → Stop → World → ℕ → Type 0
-Finished old now out stop world number =
-    ((number ≡ status_of stop) × Appends old now (out ++ text_of (ending stop world))) ⊎ (IsBroken number × WritesFront old now (out ++ text_of (ending stop world)))
+Finished old now out stop world number = HasPut old now (out ++ text_of (ending stop world)) (status_of stop) number
+
+-- all lines of a run that was cut off were written, and it stands in the midst of its lines
+pub record WasCut (taken : List ℕ) (old now : Option (List ℕ)) : Type 0 where
+  pub open_end : IsSpent (outcome_of taken).stop
+  pub written : Appends old now (text_of (outcome_of taken).told)
+
+-- a run that stands in the midst of its lines has come to an end only with its source
+abbrev pub HasEnded : List ℕ → Option (List ℕ) → Type 0
+HasEnded taken left = IsSpent (outcome_of taken).stop → IsAtEnd left
+
+-- a front of the lines of a run was written, and of its last lines only where it has ended
+abbrev pub WasBroken : List ℕ → Option (List ℕ) → Option (List ℕ) → Option (List ℕ) → Type 0
+WasBroken taken left old now = WritesFront old now (text_of (outcome_of taken).told) ⊎ (HasEnded taken left × WritesFront old now (output_of taken))
+
+-- What running a script comes to, whatever the source and the sink tell. `taken` is what was taken of the source.
+pub record Ran (left_old left_new old now : Option (List ℕ)) (number : ℕ) : Type 0 where
+  pub taken : List ℕ
+  pub moves : Consumes left_old left_new taken
+  -- the answer says where the run over all that the source had stops
+  pub done : IsExactly (StopsWith (input_of taken left_new) 0) 0 number
+  pub bad_line : IsExactly (StopsWith (input_of taken left_new) 3) 3 number
+  pub limit : IsExactly (StopsWith (input_of taken left_new) 7) 7 number
+  -- a script of the grammar within the limits comes to its end, but for a fault or out of memory
+  pub complete : is_script (input_of taken left_new) ≡ true → IsWithinLimits (input_of taken left_new) → IsInstead number ⊎ (number ≡ 0)
+  -- at 0, 3 and 7 all that the run writes was written, at 4 all lines of what was taken, at 5 and 8 a front of that
+  pub written : HasStopped number → Appends old now (output_of (input_of taken left_new))
+  pub cut : number ≡ 4 → WasCut taken old now
+  pub front : IsBroken number → WasBroken taken left_new old now
+  -- what was taken is run, and its lines are written, before more is taken
+  pub prompt : IsPrompt taken old now
+  -- what was taken has told is legal for each group by the decided list that was reached
+  pub legal : (group : ℕ) → IsLegalSoFar group taken
+
+-- the main sentence: what was taken and, where the source tells it, what is left is a script whose whole output was written, and that is legal for each group by the entries that it shows
+pub record IsLegalRun (left_old left_new old now : Option (List ℕ)) : Type 0 where
+  pub taken : List ℕ
+  pub moves : Consumes left_old left_new taken
+  pub written : Appends old now (output_of (input_of taken left_new))
+  pub legal : (group : ℕ) → IsLegalAtEnd group (input_of taken left_new)
 
 -- the line of a usage
 abbrev pub usage : List ℕ

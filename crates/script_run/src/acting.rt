@@ -3,7 +3,7 @@ ghost use Rattle.raft_model.specs.Group.{act, is_member};
 ghost use Rattle.raft_model.specs.Given.{IsGiven};
 ghost use Rattle.run_model.specs.World.{is_declared, node_at};
 ghost use Rattle.run_model.specs.Run.{bare, core, has_any, has_group, is_ripe, is_unsaved, is_used, moved, next_key, noted, reached, unsettled};
-ghost use Rattle.script_run.specs.Parts.{is_memory, leads};
+ghost use Rattle.script_run.specs.Parts.{is_memory, is_leading};
 ghost use Rattle.script_run.specs.World.{world_of};
 
 use crate::cell::tell;
@@ -33,17 +33,17 @@ fn has_any(voters: &[u8]) -> bool
     }
 }
 
-fn leads(role: Role) -> bool
-    ensures { result ≡ leads role }
+fn is_leading(role: Role) -> bool
+    ensures { result ≡ is_leading role }
 {
     matches!(role, Role::Leader)
 }
 
 /// How many entries an event appended where these were the last indices before and after it.
 fn appended_by(role: Role, before: u64, behind: u64) -> u64
-    ensures { result ≡ (if leads role then behind - before else 0) }
+    ensures { result ≡ (if is_leading role then behind - before else 0) }
 {
-    if leads(role) {
+    if is_leading(role) {
         behind.saturating_sub(before)
     } else {
         0

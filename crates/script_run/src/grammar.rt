@@ -1,11 +1,11 @@
 ghost use Rattle.object_model.specs.Command.{command_of, query_of};
-ghost use Rattle.std.specs.Prelude.{◌≡◌, ◌≤◌, ◌-◌, ◌^◌, true, false, [], ℕ, IfOk, IfSome, Some};
-ghost use Rattle.std.specs.List.{list_all};
+ghost use Rattle.std.specs.Prelude.{◌≡◌, ◌≤◌, ◌-◌, ◌^◌, true, false, [], ℕ, IfOk, IfSome, Some, map, ◌==◌};
+ghost use Rattle.std.specs.List.{list_all, slice_split};
 ghost use Rattle.std.specs.Option.{option_map};
 ghost use Rattle.object_model.specs.Words.{word, is_name, number_of};
 ghost use Rattle.wire_codec.specs.Grammar.{is_host};
 ghost use Rattle.script_run.specs.Fit.{is_filled, is_fit_limit, is_fit_line, is_fit_roster};
-ghost use Rattle.run_model.specs.Script.{again_line, by_number, ask_line, behind_four, behind_seven, behind_space, call_line, close_line, completed_line, deliver_line, event_by, event_line, event_of, group_by, group_line, host_at, host_line, is_group, is_later, is_named, is_session_verb, is_skipped, is_wire_verb, line_at, line_in, may_read, named_group, positive, raw_by, raw_line, read_line, read_request, register_line, replica_line, roster_of, roster_on, said_in, session_line, setup_after, wire_line, wire_lines};
+ghost use Rattle.run_model.specs.Script.{again_line, ascending, by_number, ask_line, behind_four, behind_seven, behind_space, call_line, close_line, completed_line, deliver_line, event_by, event_line, event_of, group_by, group_line, host_at, host_line, is_group, is_named, is_session_verb, is_skipped, is_wire_verb, line_at, line_in, may_read, named_group, next_host, positive, raw_by, raw_line, read_line, read_request, register_line, replica_line, roster_of, said_in, session_line, setup_after, wire_line, wire_lines};
 
 use host_ids::{Kind, NoMemory, Text};
 use object_model::{Words, command_of, is_name, number_of, query_of};
@@ -78,38 +78,41 @@ fn host_line(words: &Words<'_>) -> Option<ScriptLine>
     }
 }
 
-/// Whether a byte is the digit of a host after the last one.
-fn is_later(low: u8, byte: u8) -> bool
-    requires { low ≤ 9 }
-    ensures { result ≡ is_later low byte }
+/// The host after the last one, 1 to 9, that a text is.
+fn next_host(low: u8, text: &[u8]) -> Option<u8>
+    ensures host { result ≡ next_host low text.now }
+    ensures fit { IfSome result (λ h. is_host h ≡ true) }
 {
-    low + 48 < byte && byte <= 57
+    match number_of(9, text) {
+        Some(host) if host > u64::from(low) => Some(host as u8),
+        _ => None,
+    }
 }
 
-/// Hosts with commas between, ascending.
+/// The texts between commas.
+fn between_commas(alloc: Global, text: &[u8]) -> Result<Vec<&[u8]>, NoMemory>
+    ensures { IfOk result (λ texts. map (λ x. x.now) texts.items ≡ slice_split (λ b. b == 44) text.now) }
+{
+    let texts = text.split(|b| *b == b',').collect(alloc)?;
+    Ok(texts)
+}
+
+/// Hosts between commas, ascending.
 fn hosts_of(alloc: Global, text: &[u8]) -> Result<Option<Vec<u8>>, NoMemory>
-    ensures hosts { IfOk result (λ hosts. option_map (λ v. v.items) hosts ≡ roster_on false 0 [] text.now) }
+    ensures hosts { IfOk result (λ hosts. option_map (λ v. v.items) hosts ≡ ascending 0 (slice_split (λ b. b == 44) text.now)) }
     ensures fit { IfOk result (λ hosts. IfSome hosts (λ some. list_all is_host some.items ≡ true)) }
 {
+    let texts = between_commas(alloc, text)?;
     let mut found = Vec::new(alloc);
-    let mut low = 0u8;
-    let mut after = false;
-    for byte in text {
-        if after {
-            if *byte != b',' {
-                return Ok(None);
-            }
-            after = false;
-        } else {
-            if !is_later(low, *byte) {
-                return Ok(None);
-            }
-            low = *byte - 48;
-            found.push(low)?;
-            after = true;
-        }
+    let mut low = 0;
+    for text in &texts {
+        let Some(host) = next_host(low, text) else {
+            return Ok(None);
+        };
+        found.push(host)?;
+        low = host;
     }
-    if after { Ok(Some(found)) } else { Ok(None) }
+    Ok(Some(found))
 }
 
 /// The voters of a group, 1 to 7 hosts.

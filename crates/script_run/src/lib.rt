@@ -21,6 +21,8 @@ mod settle;
 mod stream;
 mod top;
 mod turn;
+mod words;
 mod world;
 
 pub use top::{Status, run_top};
+pub use words::words_of;

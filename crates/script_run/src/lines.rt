@@ -3,7 +3,7 @@ ghost use Rattle.run_model.specs.Run.{reached, most_bytes, text_of, turn};
 ghost use Rattle.run_model.specs.Script.{is_end};
 ghost use Rattle.script_run.specs.Fit.{is_fit_line};
 ghost use Rattle.script_run.specs.World.{world_of};
-ghost use Rattle.script_run.specs.Top.{HasGone, place_of};
+ghost use Rattle.script_run.specs.Top.{HasGone, place_in};
 
 use crate::buffer::Buffer;
 use crate::cut::first_line;
@@ -76,7 +76,7 @@ pub fn run_whole<'a>(
     requires counts { runner.old.lines ≤ runner.old.size }
     requires below { runner.old.size < most_bytes }
     requires length { length text.now ≤ 2 ^ 32 }
-    ensures { IfOk result (λ progress. HasGone out.old out.new (place_of runner.old) text.now progress (place_of runner.new)) }
+    ensures { IfOk result (λ progress. HasGone out.old out.new (place_in runner.old) text.now progress (place_in runner.new)) }
 {
     let mut rest = text;
     'script: while let Some((line, after)) = first_line(rest) {

@@ -1,6 +1,6 @@
-ghost use Rattle.std.specs.Prelude.{◌≡◌, ◌≢◌, List, ℕ, Some, ◌≤◌, ◌<◌, ◌↔◌, ◌⊎◌, IfOk, IsTrue, true, false};
-ghost use Rattle.fault_io.specs.Faults.{Rose, WritesFront};
-ghost use Rattle.script_run.specs.Top.{is_run, IsComplete, status_of, StopsWith, IsExactly, IsAnswer, IsBroken, HasRun, WritesAll, WritesSome, WasCut, IsLegalRun, Takes, Finished, usage};
+ghost use Rattle.std.specs.Prelude.{◌≡◌, ◌≢◌, ◌≤◌, true, false};
+ghost use Rattle.fault_io.specs.Faults.{Rose};
+ghost use Rattle.script_run.specs.Top.{is_run, status_of, HasPut, Ran, IsLegalRun, Takes, Finished, usage};
 ghost use Rattle.script_run.specs.World.{world_of};
 
 use crate::buffer::Buffer;
@@ -44,6 +44,20 @@ fn is_run(words: &[Text]) -> bool
     }
 }
 
+/// Puts the last bytes of a call, which then answers this number, if the sink takes them.
+fn put_last<K: Sink>(sink: &mut K, bytes: &[u8], number: u8) -> Status
+    ensures put { HasPut (K.contents sink.old) (K.contents sink.new) bytes.now number result.number }
+    ensures write { number ≢ 5 → result.number ≡ 5 → Rose (K.fault_count sink.old) (K.fault_count sink.new) }
+    ensures later { K.fault_count sink.old ≤ K.fault_count sink.new }
+{
+    let number = match put_all(sink, bytes) {
+        Ok(()) => number,
+        Err(IoFault::Failed) => 5,
+        Err(IoFault::NoMemory) => 8,
+    };
+    Status { number }
+}
+
 /// Puts what is printed so far and the last lines of a run that stops here, at once.
 fn finish<K: Sink>(
     alloc: Global,
@@ -59,22 +73,15 @@ fn finish<K: Sink>(
     if print_ending(alloc, stop, world, &mut out).is_err() {
         return Status { number: 8 };
     }
-    match put_all(sink, out.bytes()) {
-        Ok(()) => Status {
-            number: status_of(stop),
-        },
-        Err(IoFault::Failed) => Status { number: 5 },
-        Err(IoFault::NoMemory) => Status { number: 8 },
-    }
+    put_last(sink, out.bytes(), status_of(stop))
 }
 
 /// Runs a script.
 fn run_script<S: Source, K: Sink>(alloc: Global, source: &mut S, sink: &mut K) -> Status
     ensures usage { result.number ≢ 2 }
-    ensures run { (input : List ℕ) → S.left source.old ≡ Some input → HasRun input (K.contents sink.old) (K.contents sink.new) result.number }
-    ensures cut { result.number ≡ 4 → WasCut (S.left source.old) (S.left source.new) (K.contents sink.old) (K.contents sink.new) }
+    ensures run { Ran (S.left source.old) (S.left source.new) (K.contents sink.old) (K.contents sink.new) result.number }
+    ensures headline { result.number ≡ 0 → IsLegalRun (S.left source.old) (S.left source.new) (K.contents sink.old) (K.contents sink.new) }
     ensures bound { Takes (S.left source.old) (S.left source.new) 67121153 }
-    ensures complete { (input : List ℕ) → S.left source.old ≡ Some input → IsComplete input (Rose (S.fault_count source.old) (S.fault_count source.new)) (Rose (K.fault_count sink.old) (K.fault_count sink.new)) result.number }
     ensures read { result.number ≡ 4 → Rose (S.fault_count source.old) (S.fault_count source.new) }
     ensures write { result.number ≡ 5 → Rose (K.fault_count sink.old) (K.fault_count sink.new) }
 {
@@ -102,48 +109,44 @@ fn run_script<S: Source, K: Sink>(alloc: Global, source: &mut S, sink: &mut K) -
 }
 
 /// The program on these words: `run` runs the script that the source holds, and writes to the sink
-/// what each of its lines gives.
+/// what each of its lines gives. Other words print `usage`, and take nothing.
 ///
 /// It takes at most 8,192 bytes at a time, and has put all that the whole lines of a piece print
-/// before it takes the next piece. Other words print `usage` (`usage_line`), and take
-/// nothing (`usage_take`); a fault of the sink is ignored then.
+/// before it takes the next piece; it takes nothing after the piece in which the run stops.
 ///
-/// Statuses, each with the clause that ties it to its cause: 0 at the word `end` (`done`), and then
-/// the whole output is legal for each group, whatever its roster, by the entries that it shows
-/// (`headline`); 2 where the words are not `run` (`usage`); 3 where a line is bad or the last one
-/// isn't whole (`bad_line`); 4 where the source failed in this call (`read_fault`), and 5 where the
-/// sink did (`write_fault`); 7 where, before a line or before an event of a `settle`, leaders have
-/// appended 200,000 entries or more, 400,000 envelopes or more were sent, or the lines that were read
-/// have 67,108,864 bytes or more (`limit`); 8 where memory ran out, which has no cause in a clause. A
-/// script of the grammar that reaches no limit gives 0 or 8 where neither the source nor the sink
-/// fails (`complete`). At 0, 3 and 7 all of the run's output is written (`lines`), at 4 what the lines
-/// that were taken print (`cut`), at 5 and 8 a front of the output (`front`). Fewer than 67,121,153
-/// bytes are taken (`bound`). Source: this project's own.
+/// Statuses: 0 at the word `end`; 2 where the words are not `run`; 3 where a line is bad or the last
+/// one isn't whole; 4 where the source failed in this call (`read_fault`), and 5 where the sink did
+/// (`write_fault`); 7 where, before a line or before an event of a `settle`, leaders have appended
+/// 200,000 entries or more, 400,000 envelopes or more were sent, or the lines that were read have
+/// 67,108,864 bytes or more; 8 where memory ran out, which has no cause in a clause and may come in
+/// place of any other.
+///
+/// Where the words aren't `run`, the whole line was written at 2, and a front of it at 5 and 8
+/// (`usage`); 2 comes nowhere else (`usage_only`), and nothing is taken (`usage_take`). Where they are,
+/// `run` says what was taken and what that gives: each status exactly where the run stops so (`done`,
+/// `bad_line`, `limit`, `complete`), at 0, 3 and 7 all of its output (`written`), at 4 the lines of all
+/// that was taken (`cut`), at 5 and 8 a front of that (`front`), always the lines of all pieces but the
+/// last one (`prompt`), and that it is legal so far (`legal`). At 0 the whole output is legal for each
+/// group, whatever its roster, by the entries that it shows (`headline`). All this holds of what was
+/// taken, also where the source doesn't tell its bytes: it then says that there is such a script. Fewer
+/// than 67,121,153 bytes are taken (`bound`). Source: this project's own.
 pub fn run_top<S: Source, K: Sink>(
     alloc: Global,
     words: &[Text],
     source: &mut S,
     sink: &mut K,
 ) -> Status
-    ensures usage { (result.number ≡ 2) ↔ (is_run words.now ≡ false) }
-    ensures usage_line { result.number ≡ 2 → WritesFront (K.contents sink.old) (K.contents sink.new) usage }
-    ensures usage_take { result.number ≡ 2 → S.left source.new ≡ S.left source.old }
+    ensures usage { is_run words.now ≡ false → HasPut (K.contents sink.old) (K.contents sink.new) usage 2 result.number }
+    ensures usage_only { result.number ≡ 2 → is_run words.now ≡ false }
+    ensures usage_take { is_run words.now ≡ false → S.left source.new ≡ S.left source.old }
+    ensures run { is_run words.now ≡ true → Ran (S.left source.old) (S.left source.new) (K.contents sink.old) (K.contents sink.new) result.number }
+    ensures headline { result.number ≡ 0 → IsLegalRun (S.left source.old) (S.left source.new) (K.contents sink.old) (K.contents sink.new) }
     ensures bound { Takes (S.left source.old) (S.left source.new) 67121153 }
     ensures read_fault { result.number ≡ 4 → Rose (S.fault_count source.old) (S.fault_count source.new) }
     ensures write_fault { result.number ≡ 5 → Rose (K.fault_count sink.old) (K.fault_count sink.new) }
-    ensures done { (input : List ℕ) → S.left source.old ≡ Some input → IsExactly (StopsWith input 0) 0 result.number }
-    ensures bad_line { (input : List ℕ) → S.left source.old ≡ Some input → IsExactly (StopsWith input 3) 3 result.number }
-    ensures limit { (input : List ℕ) → S.left source.old ≡ Some input → IsExactly (StopsWith input 7) 7 result.number }
-    ensures complete { (input : List ℕ) → S.left source.old ≡ Some input → is_run words.now ≡ true → IsComplete input (Rose (S.fault_count source.old) (S.fault_count source.new)) (Rose (K.fault_count sink.old) (K.fault_count sink.new)) result.number }
-    ensures lines { (input : List ℕ) → S.left source.old ≡ Some input → IsAnswer result.number → WritesAll input (K.contents sink.old) (K.contents sink.new) }
-    ensures headline { (input : List ℕ) → S.left source.old ≡ Some input → result.number ≡ 0 → IsLegalRun input (K.contents sink.old) (K.contents sink.new) }
-    ensures cut { result.number ≡ 4 → WasCut (S.left source.old) (S.left source.new) (K.contents sink.old) (K.contents sink.new) }
-    ensures front { (input : List ℕ) → S.left source.old ≡ Some input → IsBroken result.number → WritesSome input (K.contents sink.old) (K.contents sink.new) }
 {
     if !is_run(words) {
-        // the answer stays whatever becomes of its line
-        let _ = put_all(sink, b"usage\n");
-        return Status { number: 2 };
+        return put_last(sink, b"usage\n", 2);
     }
     run_script(alloc, source, sink)
 }

@@ -1,8 +1,10 @@
 -- What is known of a line that declares a group: each voter is a host, and a limit is positive.
-use Rattle.std.proofs.Common.{◌≡◌, ◌≤◌, ◌<◌, ◌+◌, ◌-◌, ℕ, ◌==◌, List, [], ◌∷◌, ◌++◌, Bool, true, false, Option, Some, None, cond, length, arith, leb-true}
+use Rattle.std.proofs.Common.{◌≡◌, ◌≤◌, ◌<◌, ◌+◌, ◌-◌, ◌*◌, ℕ, ◌==◌, List, [], ◌∷◌, Bool, true, Option, Some, None, cond, length, arith, leb-true}
 use Rattle.std.specs.Prelude.{codes, is_some, nat_lt, nat_le, ◌&&◌, ◌||◌}
+use Rattle.std.specs.List.{slice_split}
+use Rattle.std.specs.Option.{option_map}
 use Rattle.std.proofs.lemmas.Bool.{cond_both, eqb-false, and_parts, ltb-true}
-use Rattle.object_model.specs.Words.{words_of, word, begins, is_name, number_of}
+use Rattle.object_model.specs.Words.{words_of, word, begins, is_name, number_of, number_on, with_digit}
 use Rattle.object_model.specs.Command.{command_of, query_of, most_number}
 use Rattle.run_model.specs.declared.script.ScriptLine.{ScriptLine}
 use Rattle.run_model.specs.declared.script.ScriptLine.TheVariants as script
@@ -10,7 +12,6 @@ use Rattle.run_model.specs.declared.script.HostEvent.{HostEvent}
 use Rattle.run_model.specs.declared.script.Setup.{Setup}
 use Rattle.run_model.specs.Script
 use Rattle.run_model.specs.Script.{read_line, says, behind_four, behind_seven}
-use Rattle.run_law.proofs.Basics.Lists.{all_append}
 use Rattle.run_law.proofs.Group.Law.{AreHosts}
 
 -- a limit of a group's own is positive
@@ -37,6 +38,29 @@ IsGood setup (script.Raw host group context client series responded command) = U
 IsGood setup (script.Settle group) = Unit {0}
 IsGood setup (script.Lose group) = Unit {0}
 IsGood setup (script.Wire group number) = Unit {0}
+
+-- a number that was read is at most so much
+abbrev IsWithin : ℕ → Option ℕ → Type 0
+IsWithin most None = Unit {0}
+IsWithin most (Some n) = n ≤ most
+
+digit_within : (most n c : ℕ) → IsWithin most (with_digit most n c)
+digit_within most n c =
+    let next = 10 * n + (c - 48) in
+    cond_both ((nat_le 48 c && nat_le c 57) && nat_le next most) (Some next) None (IsWithin most)
+    (λ e. leb-true next most (and_parts (nat_le 48 c && nat_le c 57) (nat_le next most) e).1)
+    (λ _. tt)
+
+number_on_within : (most : ℕ) (o : Option ℕ) (text : List ℕ) → IsWithin most o → IsWithin most (number_on most o text)
+unfolding number_on
+number_on_within most None text h = tt
+number_on_within most (Some n) [] h = h
+number_on_within most (Some n) (c ∷ cs) h = number_on_within most (with_digit most n c) cs (digit_within most n c)
+
+number_within : (most : ℕ) (text : List ℕ) → IsWithin most (number_of most text)
+number_within most [] = tt
+number_within most (c ∷ []) = number_on_within most (Some 0) (c ∷ []) (omega arith)
+number_within most (c ∷ d ∷ ds) = cond_both (c == 48) None (number_on most (Some 0) (c ∷ d ∷ ds)) (IsWithin most) (λ _. tt) (λ _. number_on_within most (Some 0) (c ∷ d ∷ ds) (omega arith))
 
 -- a line that is one is good
 abbrev pub Said : Setup → Option ScriptLine → Type 0
@@ -77,22 +101,22 @@ module _ (setup : Setup) where
   Read None = Unit {0}
   Read (Some hosts) = AreHosts hosts
 
-  -- the digit of a later host is one of 1 to 9
-  later_host : (low b : ℕ) → Script.is_later low b ≡ true → (0 < b - 48) × (b - 48 < 10)
-  later_host low b e =
-      let both = and_parts (nat_lt (low + 48) b) (nat_le b 57) e in
-      let m : low + 48 < b = ltb-true (low + 48) b both.0 in
-      let l : b ≤ 57 = leb-true b 57 both.1 in
-      (omega (arith, m), omega (arith, l))
+  -- one host before others
+  one_more : (host : ℕ) (o : Option (List ℕ)) → (0 < host) × (host < 10) → Read o → Read (option_map (λ hosts. host ∷ hosts) o)
+  one_more host None p q = tt
+  one_more host (Some hosts) p q = (p, q)
 
-  -- where the voters found so far are hosts, all that are read are hosts
-  roster_read : (after : Bool) (low : ℕ) (found text : List ℕ) → AreHosts found → Read (Script.roster_on after low found text)
-  roster_read after low found [] p = cond_both after (Some found) None Read (λ _. p) (λ _. tt)
-  roster_read after low found (b ∷ bs) p =
-      cond_both after _ _ Read
-      (λ _. cond_both (b == 44) (Script.roster_on false low found bs) None Read (λ _. roster_read false low found bs p) (λ _. tt))
-      (λ _. cond_both (Script.is_later low b) (Script.roster_on true (b - 48) (found ++ (b - 48) ∷ []) bs) None Read
-      (λ e. roster_read true (b - 48) (found ++ (b - 48) ∷ []) bs (all_append (λ (v : ℕ). (0 < v) × (v < 10)) found ((b - 48) ∷ []) p (later_host low b e, tt))) (λ _. tt))
+  before_read : (low : ℕ) (o : Option ℕ) (more : ℕ → Option (List ℕ)) → IsWithin 9 o → ((host : ℕ) → Read (more host)) → Read (Script.host_before (Script.above low o) more)
+  before_read low None more h p = tt
+  before_read low (Some n) more h p =
+      cond_both (nat_lt low n) (Some n) None (λ (o : Option ℕ). Read (Script.host_before o more))
+      (λ e. let m : low < n = ltb-true low n e in one_more n (more n) (omega (arith, m), omega (arith, h)) (p n))
+      (λ _. tt)
+
+  -- voters that were read are hosts
+  roster_read : (low : ℕ) (texts : List (List ℕ)) → Read (Script.ascending low texts)
+  roster_read low [] = tt
+  roster_read low (text ∷ texts) = before_read low (number_of 9 text) (λ host. Script.ascending host texts) (number_within 9 text) (λ host. roster_read host texts)
 
   -- voters that were read are hosts, also where they may be no more than seven
   few_read : (o : Option (List ℕ)) → Read o → Read (Script.few_of o)
@@ -108,7 +132,7 @@ module _ (setup : Setup) where
   group_said : (words : List (List ℕ)) → Said setup (Script.group_line words)
   group_said words =
       let o = Script.roster_of (word words 3) in
-      let r = few_read (Script.roster_on false 0 [] (word words 3)) (roster_read false 0 [] (word words 3) tt) in
+      let r = few_read (Script.ascending 0 (slice_split (λ b. b == 44) (word words 3))) (roster_read 0 (slice_split (λ b. b == 44) (word words 3))) in
       by_cond (Script.is_group words 1 && says words 2 (codes "regular")) _ _
       (by_cond (length words == 4) _ _ (group_by_said o None r tt)
       (by_cond (length words == 5) _ _ (positive_by (number_of 4096 (word words 4)) _ (λ limit l. group_by_said o (Some limit) r l)) tt))

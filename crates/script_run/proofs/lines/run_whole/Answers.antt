@@ -10,7 +10,10 @@ returns-in-Some-reached c =
     let r = c.script.runner in (
       v.0,
       v.1.printed,
-      λ more. ends v.0 _ _ _ _ (v.1.ahead more) (at_limit r.setup (world_of r.world) r.lines r.size (c.script.rest.now ++ more) c.in-Some-reached.limit (sym c.reached.ensures ∙ c.in-Some-reached.is)),
+      record {
+        own = λ spent. spent;
+        reached = λ more. ends v.0 _ _ _ _ (v.1.ahead more) (at_limit r.setup (world_of r.world) r.lines r.size (c.script.rest.now ++ more) c.in-Some-reached.limit (sym c.reached.ensures ∙ c.in-Some-reached.is));
+      },
     )
 
 pub returns-in_default-2 : goal.returns-in_default-2
@@ -19,9 +22,12 @@ returns-in_default-2 c =
     let r = c.script.runner in (
       v.0,
       v.1.printed,
-      λ more. ends v.0 _ _ _ _ (v.1.ahead more)
-          (rw (c.in-Some.ensures.parts more)
-          (at_bad r.setup (world_of r.world) r.lines r.size c.in-Some.line.now (c.in-Some.after.now ++ more) (sym c.reached.ensures ∙ c.in_default-reached.is) (sym c.in_ok-said.ensures.line ∙ c.in_default-2.is))),
+      record {
+        own = λ spent. spent;
+        reached = λ more. ends v.0 _ _ _ _ (v.1.ahead more)
+            (rw (c.in-Some.ensures.parts more)
+            (at_bad r.setup (world_of r.world) r.lines r.size c.in-Some.line.now (c.in-Some.after.now ++ more) (sym c.reached.ensures ∙ c.in_default-reached.is) (sym c.in_ok-said.ensures.line ∙ c.in_default-2.is)));
+      },
     )
 
 pub returns-then-is_end : goal.returns-then-is_end
@@ -30,9 +36,12 @@ returns-then-is_end c =
     let r = c.script.runner in (
       v.0,
       v.1.printed,
-      λ more. ends v.0 _ _ _ _ (v.1.ahead more)
-          (rw (c.in-Some.ensures.parts more)
-          (at_end r.setup (world_of r.world) r.lines r.size c.in-Some.line.now (c.in-Some.after.now ++ more) c.in-Some-2.said (sym c.reached.ensures ∙ c.in_default-reached.is) (sym c.in_ok-said.ensures.line ∙ c.in-Some-2.is) (sym c.is_end.ensures ∙ c.if-is_end.true))),
+      record {
+        own = λ spent. spent;
+        reached = λ more. ends v.0 _ _ _ _ (v.1.ahead more)
+            (rw (c.in-Some.ensures.parts more)
+            (at_end r.setup (world_of r.world) r.lines r.size c.in-Some.line.now (c.in-Some.after.now ++ more) c.in-Some-2.said (sym c.reached.ensures ∙ c.in_default-reached.is) (sym c.in_ok-said.ensures.line ∙ c.in-Some-2.is) (sym c.is_end.ensures ∙ c.if-is_end.true)));
+      },
     )
 
 pub returns-in-Some-3 : goal.returns-in-Some-3
@@ -43,9 +52,12 @@ returns-in-Some-3 c =
     let lines = text_of (turn c.in-Some-2.said (r.size + (length c.in-Some.line.now + 1)) w).told in (
       v.0 ++ lines,
       c.in_ok-limit.ensures.told ∙ ap (λ (l : List ℕ). l ++ lines) v.1.printed ∙ append_assoc c.args.out.now v.0 lines,
-      λ more. rw c.in_ok-limit.ensures.world
-          (full_reached v.0 r.setup w r.lines r.size (c.script.rest.now ++ more) c.in-Some.line.now (c.in-Some.after.now ++ more) c.in-Some-2.said c.in-Some-3.limit _ (v.1.ahead more) (c.in-Some.ensures.parts more)
-          (sym c.reached.ensures ∙ c.in_default-reached.is) (sym c.in_ok-said.ensures.line ∙ c.in-Some-2.is) (sym c.is_end.ensures ∙ c.if-is_end.false) (sym c.in_ok-limit.ensures.full ∙ c.in-Some-3.is)),
+      record {
+        own = λ spent. spent;
+        reached = λ more. rw c.in_ok-limit.ensures.world
+            (full_reached v.0 r.setup w r.lines r.size (c.script.rest.now ++ more) c.in-Some.line.now (c.in-Some.after.now ++ more) c.in-Some-2.said c.in-Some-3.limit _ (v.1.ahead more) (c.in-Some.ensures.parts more)
+            (sym c.reached.ensures ∙ c.in_default-reached.is) (sym c.in_ok-said.ensures.line ∙ c.in-Some-2.is) (sym c.is_end.ensures ∙ c.if-is_end.false) (sym c.in_ok-limit.ensures.full ∙ c.in-Some-3.is));
+      },
     )
 
 pub script-preserved : goal.script-preserved
@@ -71,7 +83,10 @@ returns-in-Some-full c =
     let r = c.script.runner in (
       v.0,
       v.1.printed,
-      λ more. ends v.0 _ _ _ _ (v.1.ahead more) (at_limit r.setup (world_of r.world) r.lines r.size (c.script.rest.now ++ more) c.in-Some-full.limit (sym c.reached-full.ensures ∙ c.in-Some-full.is)),
+      record {
+        own = λ spent. spent;
+        reached = λ more. ends v.0 _ _ _ _ (v.1.ahead more) (at_limit r.setup (world_of r.world) r.lines r.size (c.script.rest.now ++ more) c.in-Some-full.limit (sym c.reached-full.ensures ∙ c.in-Some-full.is));
+      },
     )
 
 pub returns-then-rest-gt4096 : goal.returns-then-rest-gt4096
@@ -80,8 +95,11 @@ returns-then-rest-gt4096 c =
     let r = c.script.runner in (
       v.0,
       v.1.printed,
-      λ more. ends v.0 _ _ _ _ (v.1.ahead more)
-          (at_long r.setup (world_of r.world) r.lines r.size c.script.rest.now more (sym c.reached-full.ensures ∙ c.in_default-full.is) c.in_default.ensures.parts c.if-rest-gt4096.true),
+      record {
+        own = λ spent. spent;
+        reached = λ more. ends v.0 _ _ _ _ (v.1.ahead more)
+            (at_long r.setup (world_of r.world) r.lines r.size c.script.rest.now more (sym c.reached-full.ensures ∙ c.in_default-full.is) c.in_default.ensures.parts c.if-rest-gt4096.true);
+      },
     )
 
 pub returns : goal.returns

@@ -1,7 +1,7 @@
 use Rattle.std.proofs.Common.{◌≡◌, ◌+◌, ◌-◌, ◌≤◌, ◌<◌, List, ℕ, None, length}
 use Rattle.run_model.specs.Run.{most_bytes, reached}
 use Rattle.script_run.specs.World.{world_of}
-use Rattle.script_run.specs.Top.{place_of}
+use Rattle.script_run.specs.Top.{place_in}
 use Rattle.script_run.specs.Reach.{HasNoFeed}
 use Rattle.script_run.proofs.Streams.{Under}
 use Rattle.script_run.proofs.stream.run_stream.Given as goal
@@ -9,7 +9,7 @@ use Rattle.script_run.proofs.stream.run_stream.Given as goal
 abbrev pub invariant-source : goal.invariant-source
 invariant-source g l =
     (script : List ℕ) × (done : List ℕ) × record {
-      under : Under (g.S.Source.left l.initial.source) (g.S.Source.left l.source) (g.K.Sink.contents l.initial.sink) (g.K.Sink.contents l.sink) (place_of l.runner) l.held.items script done;
+      under : Under (g.S.Source.left l.initial.source) (g.S.Source.left l.source) (g.K.Sink.contents l.initial.sink) (g.K.Sink.contents l.sink) (place_in l.runner) l.held.items script done;
       counts : l.runner.lines ≤ l.runner.size;
       below : l.runner.size < most_bytes;
       within : reached (world_of l.runner.world) l.runner.size ≡ None;

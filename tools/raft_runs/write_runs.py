@@ -18,10 +18,10 @@ RUNS = [
     ("Minority", "A proposal that one of three has saved: it isn't decided."),
     ("Repeated", "A proposal that is handed on, with its envelope delivered twice: it is decided twice."),
     ("Deposed", "A leader that another was elected past: old answers to its beats don't confirm its read."),
-    ("Lagging", "A read that is asked at a follower that lags behind."),
+    ("Lagging", "A read that is asked at a follower that lags."),
     ("Crashed", "A leader that crashes before its entry is decided: the next leader decides it."),
-    ("Installed", "A host that comes back behind the front of the leader's log, and gets a snapshot in"
-                  " pieces that are repeated and turned around."),
+    ("Installed", "A host that comes back with a log that ends below the front of the leader's, and gets a"
+                  " snapshot in pieces that are repeated and turned around."),
 ]
 
 DRAWN = [
@@ -99,7 +99,7 @@ def field(value):
 def envelope(envelope):
     sender, to, term, body = envelope
     fields = list(body[1:])
-    return "post %d %d %d (kinds.%s)" % (sender, to, term, " ".join([body[0]] + list(map(field, fields))))
+    return "post %d %d %d (bodies.%s)" % (sender, to, term, " ".join([body[0]] + list(map(field, fields))))
 
 
 def digest(group, host):
@@ -141,7 +141,7 @@ def imports(body):
         ("Rattle.host_ids.specs.declared.entry.Entry.{Entry}", True),
         ("Rattle.host_ids.specs.declared.proposal.Proposal.TheVariants as proposals", "proposals." in body),
         ("Rattle.wire_codec.specs.declared.envelope.Envelope.{Envelope}", True),
-        ("Rattle.wire_codec.specs.declared.envelope.Body.TheVariants as kinds", True),
+        ("Rattle.wire_codec.specs.declared.envelope.Body.TheVariants as bodies", True),
         (own + "declared.event.LaneEvent.{LaneEvent}", True),
         (own + "declared.event.LaneEvent.TheVariants as events", True),
         (own + "declared.note.Note.{Note}", True),

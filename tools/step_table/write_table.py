@@ -150,7 +150,7 @@ class Table:
         """Takes the inputs in the order of Step: envelopes, what else is given, and batches."""
         step = {name: "\n".join(it.body) for name, it in self.specs.definitions["Step"].items()}
         clause = r"^%s .*?\b%s\.(\w+).*? r =((?:.|\n(?!%s ))*)"
-        for name, kinds in (("on_body", "kinds"), ("row", "inputs")):
+        for name, kinds in (("on_body", "bodies"), ("row", "inputs")):
             for found in re.finditer(clause % (name, kinds, name), step[name], re.M):
                 if found[1] != "Envelope":
                     self.take_input(found[1], found[2])

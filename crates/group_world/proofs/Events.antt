@@ -15,6 +15,8 @@ use Rattle.raft_model.specs.Step.{ready, after_ready}
 use Rattle.raft_model.specs.Group.{Group, Acted, replica_at, continued, moved, did, readies, is_member, is_up, at_up, refuses}
 use Rattle.raft_model.specs.Given.{host_refusal}
 use Rattle.group_world.specs.Events.{batch_notes}
+use Rattle.group_world.specs.declared.members.Members.{Members}
+use Rattle.group_world.specs.Members.{group_of, Sound}
 
 -- ---- tables
 
@@ -78,6 +80,10 @@ in_range (v ∷ vs) h e a =
 
 pub host_in : (g : Group) (h : ℕ) → host_refusal g h ≡ None → All (λ v. (1 ≤ v) × (v ≤ 9)) g.voters → (1 ≤ h) × (h ≤ 9)
 host_in g h e a = in_range g.voters h (member g h e) a
+
+-- the host of an event that isn't refused is one
+pub is_host : (w : Members) (h : ℕ) → Sound w → host_refusal (group_of w) h ≡ None → (1 ≤ h) × (h ≤ 9)
+is_host w h s e = host_in (group_of w) h e s.hosts
 
 -- hosts from 1 on are none of them 0
 pub none_zero : (voters : List ℕ) → All (λ v. (1 ≤ v) × (v ≤ 9)) voters → list_any (λ v. v == 0) voters ≡ false

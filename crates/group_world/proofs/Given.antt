@@ -7,7 +7,8 @@ use Rattle.std.specs.Prelude.{◌==◌, ◌&&◌, not, nat_le, nat_lt, length, I
 use Rattle.host_ids.specs.declared.entry.Key.{Key}
 use Rattle.host_ids.specs.declared.proposal.Proposal.{Proposal}
 use Rattle.host_ids.specs.declared.proposal.Proposal.TheVariants as proposals
-use Rattle.wire_codec.specs.Grammar.{is_key, is_proposal, is_blank, is_request, is_command, are_fit_numbers, is_piece, most_piece}
+use Rattle.wire_codec.specs.Grammar.{is_key, is_proposal, is_blank, is_request, is_command, are_fit_numbers, is_piece}
+use Rattle.wire_codec.specs.declared.grammar.TheConstants.{MOST_PIECE}
 use Rattle.raft_model.specs.declared.chunk.Chunk.{Chunk}
 use Rattle.raft_model.specs.declared.input.Input.TheVariants as inputs
 use Rattle.raft_model.specs.declared.state.Inbox.{Inbox}
@@ -29,8 +30,8 @@ request_fit key p h = spelled_fit p (and_parts (is_key key) (is_proposal p) (and
 
 piece_numbers : (index last_term number count size : ℕ) (bytes : List ℕ) → is_piece index last_term number count size bytes ≡ true → (number + 1 < 2 ^ 32) × (count + 1 < 2 ^ 32)
 piece_numbers index last_term number count size bytes h =
-    let bytes_end = and_parts _ (nat_le (length bytes) most_piece) h in
-    let size_end = and_parts _ (nat_le size most_piece) bytes_end.0 in
+    let bytes_end = and_parts _ (nat_le (length bytes) MOST_PIECE) h in
+    let size_end = and_parts _ (nat_le size MOST_PIECE) bytes_end.0 in
     let size_begin = and_parts _ (nat_le 1 size) size_end.0 in
     let count_end = and_parts _ (nat_lt (count + 1) (2 ^ 32)) size_begin.0 in
     let number_end = and_parts _ (nat_le number count) count_end.0 in

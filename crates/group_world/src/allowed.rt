@@ -1,10 +1,10 @@
 ghost use Rattle.std.specs.Prelude.{◌≡◌};
 ghost use Rattle.raft_model.specs.Group.{is_decided};
 ghost use Rattle.raft_model.specs.Allowed.{is_allowed};
-ghost use Rattle.group_world.specs.World.{group_of};
+ghost use Rattle.group_world.specs.Members.{group_of};
 ghost use Rattle.raft_model.specs.Given.{IsGiven};
 
-use crate::world::World;
+use crate::members::Members;
 use host_ids::Entry;
 use raft_core::LaneEvent;
 
@@ -23,7 +23,7 @@ fn is_decided(decided: &[Entry], index: u64, term: u64) -> bool
 
 /// Whether an event is one that honest disks and honest snapshots may lead to. An install names the
 /// received snapshot, and no start is given.
-pub(crate) fn is_allowed(w: &World, event: &LaneEvent) -> bool
+pub(crate) fn is_allowed(w: &Members, event: &LaneEvent) -> bool
     requires given { IsGiven (group_of w.now) event.now }
     ensures { result ≡ is_allowed (group_of w.now) event.now }
 {

@@ -6,21 +6,20 @@ ghost use Rattle.raft_model.specs.Fit.{are_fit};
 ghost use Rattle.raft_model.specs.Replica.{is_changed, ripe};
 ghost use Rattle.raft_model.specs.Saving.{is_stuck};
 ghost use Rattle.raft_model.specs.Allowed.{is_allowed};
-ghost use Rattle.raft_model.specs.Group.{act, fresh_group, replica_at, envelope_at, is_member};
+ghost use Rattle.raft_model.specs.Group.{act, fresh_group, replica_at, envelope_at};
 ghost use Rattle.raft_model.specs.declared.event.LaneFault.TheVariants as faults;
-ghost use Rattle.raft_core.specs.Range.{InRange};
 ghost use Rattle.raft_safety.specs.OneList.{IsOneList};
 ghost use Rattle.raft_safety.specs.ReadFront.{AreFronted};
 ghost use Rattle.raft_safety.specs.Runs.{HasRun};
-ghost use Rattle.group_world.specs.World.{group_of, lost, IsWhole};
+ghost use Rattle.group_world.specs.Members.{group_of, lost, IsWhole};
 ghost use Rattle.raft_model.specs.Given.{refusal_of, IsGiven};
 
 use crate::act::act_on;
 use crate::allowed::is_allowed;
 use crate::make::begin;
+use crate::members::Members;
 use crate::moves::range_of;
 use crate::refusals::{envelope_of, refusal, some_replica};
-use crate::world::World;
 use host_ids::{Batch, Entries, Entry, NoMemory};
 use raft_core::{LaneEvent, LaneFault, Note, Received, Role};
 use raft_safety::{runs_as_one, runs_go_on};
@@ -40,20 +39,20 @@ use wire_codec::Envelope;
 /// refusals are this project's own.
 #[derive(Drop)]
 pub struct Lane {
-    world: World,
+    members: Members,
     faithful: bool,
 }
 
 impl Model for Lane {
     ghost use Rattle.std.specs.Prelude.{◌≡◌, true};
     ghost use Rattle.raft_safety.specs.Runs.{HasRun};
-    ghost use Rattle.group_world.specs.World.{Kept, group_of, IsWhole};
+    ghost use Rattle.group_world.specs.Members.{Kept, group_of, IsWhole};
 
     ghost Value = { Kept };
 
-    ghost view = { λ l. record { group = group_of l.world; faithful = l.faithful } };
+    ghost view = { λ l. record { group = group_of l.members; faithful = l.faithful } };
 
-    ghost invariant = { λ l. IsWhole l.world × (l.faithful ≡ true → HasRun (group_of l.world)) };
+    ghost invariant = { λ l. IsWhole l.members × (l.faithful ≡ true → HasRun (group_of l.members)) };
 }
 
 impl Lane {
@@ -89,20 +88,20 @@ impl Lane {
         ensures safe { self.old.faithful ≡ true → is_allowed self.old.group event ≡ true → OnOk result (IsOneList self.old.group self.new.group) }
         ensures fronts { self.old.faithful ≡ true → is_allowed self.old.group event ≡ true → IfOk result (λ notes. AreFronted self.new.group.asks notes.items) }
     {
-        if let Some(fault) = refused(&self.world, &event) {
+        if let Some(fault) = refused(&self.members, &event) {
             return Err(fault);
         }
         runs_go_on();
         runs_as_one();
-        let allowed = is_allowed(&self.world, &event);
-        let (alloc, number) = (self.world.wire.alloc(), self.world.number);
-        match act_on(&mut self.world, event) {
+        let allowed = is_allowed(&self.members, &event);
+        let (alloc, number) = (self.members.wire.alloc(), self.members.number);
+        match act_on(&mut self.members, event) {
             Ok(notes) => {
                 self.faithful = self.faithful && allowed;
                 Ok(notes)
             }
             Err(_) => {
-                self.world = World::lost(alloc, number);
+                self.members = Members::lost(alloc, number);
                 self.faithful = false;
                 Err(LaneFault::NoMemory)
             }
@@ -118,9 +117,8 @@ impl Lane {
         ensures { IfOk result (λ lane. lane ≡ record { group = fresh_group group voters.now; faithful = true }) }
     {
         runs_go_on();
-        have_no_zero(group, voters);
         Ok(Lane {
-            world: begin(alloc, group, voters)?,
+            members: begin(alloc, group, voters)?,
             faithful: true,
         })
     }
@@ -129,21 +127,21 @@ impl Lane {
     pub fn voters(&self) -> &[u8]
         ensures { result.now ≡ self.now.group.voters }
     {
-        &self.world.voters
+        &self.members.voters
     }
 
     /// The number of the newest envelope, 0 where there is none.
     pub fn newest(&self) -> u64
         ensures { result ≡ length self.now.group.wire }
     {
-        self.world.wire.envelopes().len() as u64
+        self.members.wire.envelopes().len() as u64
     }
 
     /// The envelope of a number, from 1 in the order of sending; `None` exactly where there is none.
     pub fn envelope(&self, number: u64) -> Option<&Envelope>
         ensures { option_copied result ≡ envelope_at self.now.group.wire number }
     {
-        envelope_of(self.world.wire.envelopes(), number)
+        envelope_of(self.members.wire.envelopes(), number)
     }
 
     /// The decided list's entries from `index`, at least 1, on, at most `most` of them. It takes as
@@ -152,22 +150,22 @@ impl Lane {
         requires from { 1 ≤ index }
         ensures { IfOk result (λ entries. entries ≡ take most (drop (index - 1) self.now.group.decided)) }
     {
-        let some = range_of(&self.world.decided, (index - 1) as usize, most as usize);
-        Entries::from_slice(*self.world.decided.allocator(), some)
+        let some = range_of(&self.members.decided, (index - 1) as usize, most as usize);
+        Entries::from_slice(*self.members.decided.allocator(), some)
     }
 
     /// The decided list.
     pub fn decided(&self) -> &[Entry]
         ensures { result.now ≡ self.now.group.decided }
     {
-        self.world.decided.as_slice()
+        self.members.decided.as_slice()
     }
 
     /// The pending batch of a host, a voter, if it has one.
     pub fn batch(&self, host: u8) -> Option<&Batch>
         ensures { option_copied result ≡ option_map (λ p. p.batch) (replica_at self.now.group host).pending }
     {
-        match some_replica(&self.world, host) {
+        match some_replica(&self.members, host) {
             None => None,
             Some(replica) => replica.pending(),
         }
@@ -177,20 +175,21 @@ impl Lane {
     pub fn changed(&self, host: u8) -> bool
         ensures { result ≡ (is_changed (replica_at self.now.group host) && not (is_stuck (replica_at self.now.group host))) }
     {
-        match some_replica(&self.world, host) {
+        match some_replica(&self.members, host) {
             None => false,
             Some(replica) => replica.changed(),
         }
     }
 
     /// The last index that the replica of a host, a voter, may have applied: it lies from front to last of
-    /// its log.
+    /// its log, and is at most 2^62.
+    #[tactic(auto, using(crate::proofs::Ranges::whole_range))]
     pub fn ripe(&self, host: u8) -> u64
         ensures value { result ≡ ripe (replica_at self.now.group host) }
         ensures range { ((replica_at self.now.group host).log.front ≤ result) × (result ≤ last (replica_at self.now.group host).log) }
+        ensures short { result ≤ 2 ^ 62 }
     {
-        have_ranges(&self.world, host);
-        match some_replica(&self.world, host) {
+        match some_replica(&self.members, host) {
             None => 0,
             Some(replica) => replica.ripe(),
         }
@@ -201,7 +200,7 @@ impl Lane {
     pub fn inbox(&self, host: u8) -> Option<&Received>
         ensures { option_copied result ≡ option_map (λ b. b.received) (replica_at self.now.group host).inbox }
     {
-        match some_replica(&self.world, host) {
+        match some_replica(&self.members, host) {
             None => None,
             Some(replica) => replica.inbox(),
         }
@@ -211,31 +210,31 @@ impl Lane {
     pub fn role(&self, host: u8) -> Role
         ensures { result ≡ (replica_at self.now.group host).role }
     {
-        match some_replica(&self.world, host) {
+        match some_replica(&self.members, host) {
             None => Role::Follower,
             Some(replica) => replica.role(),
         }
     }
 
     /// The commit index of the replica of a host, a voter: it lies from front to last of its log.
+    #[tactic(auto, using(crate::proofs::Ranges::whole_range))]
     pub fn commit(&self, host: u8) -> u64
         ensures value { result ≡ (replica_at self.now.group host).commit }
         ensures range { ((replica_at self.now.group host).log.front ≤ result) × (result ≤ last (replica_at self.now.group host).log) }
     {
-        have_ranges(&self.world, host);
-        match some_replica(&self.world, host) {
+        match some_replica(&self.members, host) {
             None => 0,
             Some(replica) => replica.commit(),
         }
     }
 
     /// The term of the replica of a host, a voter, at most 2^62.
+    #[tactic(auto, using(crate::proofs::Ranges::whole_range))]
     pub fn term(&self, host: u8) -> u64
         ensures value { result ≡ (replica_at self.now.group host).term }
         ensures range { result ≤ 2 ^ 62 }
     {
-        have_ranges(&self.world, host);
-        match some_replica(&self.world, host) {
+        match some_replica(&self.members, host) {
             None => 0,
             Some(replica) => replica.term(),
         }
@@ -245,19 +244,19 @@ impl Lane {
     pub fn front(&self, host: u8) -> u64
         ensures { result ≡ (replica_at self.now.group host).log.front }
     {
-        match some_replica(&self.world, host) {
+        match some_replica(&self.members, host) {
             None => 0,
             Some(replica) => replica.log().front(),
         }
     }
 
     /// The last index of the log of a host, a voter, at most 2^62.
+    #[tactic(auto, using(crate::proofs::Ranges::whole_range))]
     pub fn last(&self, host: u8) -> u64
         ensures value { result ≡ last (replica_at self.now.group host).log }
         ensures range { result ≤ 2 ^ 62 }
     {
-        have_ranges(&self.world, host);
-        match some_replica(&self.world, host) {
+        match some_replica(&self.members, host) {
             None => 0,
             Some(replica) => replica.log().last(),
         }
@@ -268,7 +267,7 @@ impl Lane {
     pub fn term_at(&self, host: u8, index: u64) -> Option<u64>
         ensures { result ≡ term_there (replica_at self.now.group host).log index }
     {
-        match some_replica(&self.world, host) {
+        match some_replica(&self.members, host) {
             None => { if index == 0 { Some(0) } else { None } }
             Some(replica) => replica.log().term_at(index),
         }
@@ -279,24 +278,24 @@ impl Lane {
     /// to 2^64-3 and the responded value at most 2^64-3, where it has them. It takes as long as what
     /// it copies. The only error is `NoMemory`.
     pub fn entries(&self, host: u8, first: u64, most: u64) -> Result<Entries, NoMemory>
-        requires behind { (replica_at self.now.group host).log.front < first }
+        requires beyond { (replica_at self.now.group host).log.front < first }
         requires within { first ≤ last (replica_at self.now.group host).log + 1 }
         ensures entries { IfOk result (λ entries. entries ≡ slice (replica_at self.now.group host).log first most) }
         ensures fit { IfOk result (λ entries. are_fit entries ≡ true) }
     {
-        let alloc = self.world.wire.alloc();
+        let alloc = self.members.wire.alloc();
         Entries::from_slice(alloc, self.entry_slice(host, first, most))
     }
 
     /// The same entries as `entries` answers, lent.
+    #[tactic(auto, using(crate::proofs::Lost::whole_fit))]
     pub fn entry_slice(&self, host: u8, first: u64, most: u64) -> &[Entry]
-        requires behind { (replica_at self.now.group host).log.front < first }
+        requires beyond { (replica_at self.now.group host).log.front < first }
         requires within { first ≤ last (replica_at self.now.group host).log + 1 }
         ensures entries { result.now ≡ slice (replica_at self.now.group host).log first most }
         ensures fit { are_fit result.now ≡ true }
     {
-        have_fit_numbers(&self.world, host, first, most);
-        match some_replica(&self.world, host) {
+        match some_replica(&self.members, host) {
             None => &[],
             Some(replica) => replica.log().some(first, most),
         }
@@ -312,27 +311,9 @@ impl Lane {
     }
 }
 
-/// A group of hosts from 1 on has no voter 0.
-fn have_no_zero(group: u8, voters: &[u8])
-    requires hosts { All (λ v. (1 ≤ v) × (v ≤ 9)) voters.now }
-    ensures { is_member (fresh_group group voters.now) 0 ≡ false }
-{}
-
-/// A replica's numbers are in their ranges.
-fn have_ranges(w: &World, host: u8)
-    requires { IsWhole w.now }
-    ensures { InRange (replica_at (group_of w.now) host) }
-{}
-
-/// The numbers of the proposals in a replica's log are in their ranges.
-fn have_fit_numbers(w: &World, host: u8, first: u64, most: u64)
-    requires { IsWhole w.now }
-    ensures { are_fit (slice (replica_at (group_of w.now) host).log first most) ≡ true }
-{}
-
 /// Why an event is refused, if so, by the group's event.
 #[tactic(auto, using(crate::proofs::Refused::refused_is))]
-fn refused(w: &World, event: &LaneEvent) -> Option<LaneFault>
+fn refused(w: &Members, event: &LaneEvent) -> Option<LaneFault>
     ensures definition { result ≡ (act event.now (group_of w.now)).refused }
     ensures table { result ≡ refusal_of (group_of w.now) event.now }
 {

@@ -5,7 +5,7 @@ use Rattle.host_ids.specs.declared.entry.Entry.{Entry}
 use Rattle.host_ids.specs.declared.entries.Held.{Held}
 use Rattle.host_ids.specs.declared.entries.Held.TheVariants.{Own, Shared}
 
--- a part of a list: so many from a place on
+-- a part of a list: a number of entries from a place on
 abbrev pub part : ℕ → ℕ → List Entry → List Entry
 part first count es = take count (drop first es)
 

@@ -16,7 +16,7 @@ pub use entries::Entries;
 pub use entry::{Entry, Key};
 pub use kind::Kind;
 pub use memory::NoMemory;
-pub use proposal::Proposal;
+pub use proposal::{MOST_COMMAND, MOST_SERIES, MOST_SESSIONS, Proposal};
 pub use text::Text;
 pub use verdict::Verdict;
 

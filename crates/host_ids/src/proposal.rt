@@ -3,11 +3,20 @@ ghost use Rattle.std.specs.Prelude.{◌≡◌, IfOk};
 use crate::memory::NoMemory;
 use crate::text::Text;
 
+/// The most bytes of a command, and of a value and a reply of the key-value object.
+pub const MOST_COMMAND: usize = 512;
+
+/// The greatest series of a session's command, and the greatest responded value.
+pub const MOST_SERIES: u64 = u64::MAX - 2;
+
+/// The most sessions of a group, and its limit of them where none is named.
+pub const MOST_SESSIONS: u32 = 4096;
+
 /// What a group decides on at one place of its list.
 ///
 /// It has no term and no key: the same proposal may be decided at several places. Client ids are
-/// 1 to 2^64-1, a command's series is 1 to 2^64-3 and its responded value 0 to 2^64-3, a command
-/// has 1 to 512 bytes. Source: dissertation section 6.3 for sessions; the forms are this project's
+/// 1 to 2^64-1, a command's series is 1 to `MOST_SERIES` and its responded value 0 to that, a command
+/// has 1 to `MOST_COMMAND` bytes. Source: dissertation section 6.3 for sessions; the forms are this project's
 /// own.
 #[derive(Debug, PartialEq, Eq, Drop)]
 pub enum Proposal {

@@ -38,7 +38,7 @@ fn only_word(alloc: Global, text: &str) -> Result<Text, Flaw> {
 }
 
 /// What stands after the group, which is always 1.
-fn behind_group(text: &str) -> Result<&str, Flaw> {
+fn beyond_group(text: &str) -> Result<&str, Flaw> {
     let (group, rest) = cut(text)?;
     if group != "1" {
         return Err(Flaw::Group);
@@ -105,7 +105,7 @@ fn what_in(alloc: Global, text: &str) -> Result<What, Flaw> {
 /// `CTX 1 TEXT`.
 fn asked_in(alloc: Global, text: &str) -> Result<Mark, Flaw> {
     let (context, rest) = cut(text)?;
-    let what = behind_group(rest)?;
+    let what = beyond_group(rest)?;
     Ok(Mark::Asks {
         context: only_word(alloc, context)?,
         what: what_in(alloc, what)?,
@@ -148,7 +148,7 @@ fn read_in(alloc: Global, text: &str) -> Result<Mark, Flaw> {
 
 /// `1 I CTX TEXT`.
 fn entry_in(alloc: Global, text: &str) -> Result<Mark, Flaw> {
-    let (place, rest) = cut(behind_group(text)?)?;
+    let (place, rest) = cut(beyond_group(text)?)?;
     let (context, proposal) = cut(rest)?;
     Ok(Mark::Shows {
         place: number_in(place)?,

@@ -23,7 +23,7 @@ abbrev pub joined : Pairs → Result Pairs ℕ → Result Pairs ℕ
 joined pairs (Ok es) = Ok (pairs ++ es)
 joined pairs (Err at) = Err at
 
--- pairs are read, the last at the key before, so many are left, and the whole gives the total
+-- pairs are read, the last at the key before, `left` more are to come, and the whole gives the total
 pub record Ahead (total : Result Pairs ℕ) (size : ℕ) (pairs : Pairs) (before : Option (List ℕ)) (left at : ℕ) (rest : List ℕ) : Type 0 where
   pub room : at + length rest ≡ size
   pub whole : total ≡ joined pairs (read_pairs left before at rest)

@@ -8,7 +8,7 @@ ghost use Rattle.kv_object.specs.declared.image.ImageFault.TheVariants.{NoMemory
 
 use crate::kv::Kv;
 use byteorder::{BigEndian, ByteOrder};
-use host_ids::{NoMemory, Text};
+use host_ids::{MOST_COMMAND, NoMemory, Text};
 use object_model::{MOST_KEYS, images_are_read, is_key, is_value};
 use std::alloc::{AllocError, AllocFailed, Global};
 use std::collections::BTreeMap;
@@ -69,7 +69,7 @@ fn spell(out: &mut Vec<u8>, text: &[u8]) -> Result<(), NoMemory>
 
 // ---- reading
 
-/// So many bytes, and what stands after them, where there are so many.
+/// The first `count` bytes, and what stands after them, where there are that many.
 fn part_of(count: usize, bytes: &[u8]) -> Option<(&[u8], &[u8])>
     ensures { option_map deref_pair result ≡ part_of count bytes.now }
 {
@@ -102,7 +102,7 @@ fn is_next(before: Option<&[u8]>, key: &[u8]) -> bool
 fn is_stored(value: &[u8]) -> bool
     ensures { result ≡ is_stored value.now }
 {
-    is_value(value) && value.len() <= 512
+    is_value(value) && value.len() <= MOST_COMMAND
 }
 
 /// A key and its value, and what stands after them.
@@ -151,7 +151,7 @@ fn put_pair(
     Ok(())
 }
 
-/// So many pairs, where nothing stands after them.
+/// The next `count` pairs, where nothing stands after them.
 fn pairs_in(alloc: Global, count: usize, bytes: &[u8]) -> Result<BTreeMap<Text, Text>, ImageFault>
     requires { 4 + length bytes.now < 2 ^ 64 }
     ensures pairs { IfOk result (λ held. read_pairs count None 4 bytes.now ≡ Ok held.entries) }

@@ -1,7 +1,8 @@
 ghost use Rattle.std.specs.Prelude.{◌≡◌, ◌≤◌, [], length, IfOk, OnErr, OnOk};
 ghost use Rattle.object_model.specs.Object.{after, after_command, answer};
+ghost use Rattle.host_ids.specs.declared.proposal.TheConstants.{MOST_COMMAND};
 
-use host_ids::{NoMemory, Text};
+use host_ids::{MOST_COMMAND, NoMemory, Text};
 use object_model::{Change, Command, Query, command_of, decimal, query_of, shown, stays_object};
 use std::alloc::Global;
 use std::collections::BTreeMap;
@@ -61,7 +62,7 @@ fn give(alloc: Global, held: &mut BTreeMap<Text, Text>, command: &Text) -> Resul
     ensures pairs { OnOk result (held.new.entries ≡ (after held.old.entries command.now).pairs) }
     ensures err { OnErr result (held.new.entries ≡ held.old.entries) }
 {
-    if command.bytes().len() > 512 {
+    if command.bytes().len() > MOST_COMMAND {
         return Text::new(alloc, b"!");
     }
     match command_of(alloc, command.bytes())? {
@@ -87,7 +88,7 @@ impl Kv {
     /// `!`. A reply has at most 512 bytes. After `NoMemory`, the only error, all is as before.
     pub fn update(&mut self, command: &Text) -> Result<Text, NoMemory>
         ensures reply { IfOk result (λ reply. reply ≡ (after self.old command.now).reply) }
-        ensures short { IfOk result (λ reply. length reply ≤ 512) }
+        ensures short { IfOk result (λ reply. length reply ≤ MOST_COMMAND) }
         ensures pairs { OnOk result (self.new ≡ (after self.old command.now).pairs) }
         ensures err { OnErr result (self.new ≡ self.old) }
     {

@@ -49,7 +49,7 @@ fn one_pair(alloc: Global, key: &[u8], value: &[u8]) -> Result<Vec<u8>, Fail> {
     Ok(bytes)
 }
 
-/// The number that so many bytes at a place spell, where they are there.
+/// The number that `count` bytes at a place spell, where they are there.
 fn number_at(bytes: &[u8], at: usize, count: usize) -> Option<usize> {
     let mut number = 0_usize;
     for place in at..at.saturating_add(count) {

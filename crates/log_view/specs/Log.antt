@@ -34,7 +34,7 @@ last_term l = term_at l (last l)
 abbrev pub term_there : Log → ℕ → Option ℕ
 term_there l i = if nat_lt i l.front || nat_lt (last l) i then None else Some (term_at l i)
 
--- at most so many entries from an index on
+-- at most `most` entries from an index on
 abbrev pub slice : Log → ℕ → ℕ → List Entry
 slice l first most = take most (drop (first - l.front - 1) l.entries)
 

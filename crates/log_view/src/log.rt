@@ -118,7 +118,7 @@ impl Log {
     /// The entries from `first` on, at most `most` of them; `first` lies from front + 1 to last + 1.
     /// It takes as long as what it copies. The only error is `NoMemory`.
     pub fn slice(&self, first: u64, most: u64) -> Result<Entries, NoMemory>
-        requires behind { self.now.front < first }
+        requires beyond { self.now.front < first }
         requires within { first ≤ last self.now + 1 }
         ensures { IfOk result (λ es. es ≡ slice self.now first most) }
     {
@@ -136,7 +136,7 @@ impl Log {
     /// All entries from `first` on, which lies from front + 1 to last + 1. It takes as long as what it
     /// copies. The only error is `NoMemory`.
     pub fn rest(&self, first: u64) -> Result<Entries, NoMemory>
-        requires behind { self.now.front < first }
+        requires beyond { self.now.front < first }
         requires within { first ≤ last self.now + 1 }
         ensures { IfOk result (λ es. es ≡ drop (first - self.now.front - 1) self.now.entries) }
     {
@@ -148,7 +148,7 @@ impl Log {
     /// and the last index stays below 2^64. It takes as long as what goes and what comes. After
     /// `NoMemory`, the only error, all is as before.
     pub fn append_after(&mut self, index: u64, entries: Entries) -> Result<(), NoMemory>
-        requires behind { self.old.front ≤ index }
+        requires beyond { self.old.front ≤ index }
         requires within { index ≤ last self.old }
         requires fits { index + length entries < 2 ^ 64 }
         ensures ok { OnOk result (self.new ≡ append_after self.old index entries) }
@@ -180,7 +180,7 @@ impl Log {
     /// front to last. It takes no memory.
     #[tactic(auto, using(crate::proofs::Tallies::term_of_entry))]
     pub fn cut_front(&mut self, index: u64)
-        requires behind { self.old.front ≤ index }
+        requires beyond { self.old.front ≤ index }
         requires within { index ≤ last self.old }
         ensures { self.new ≡ cut_front self.old index }
     {

@@ -2,7 +2,7 @@ ghost use Rattle.std.specs.Prelude.{◌≡◌, take, drop};
 
 use host_ids::Entry;
 
-/// At most so many from a place on.
+/// At most `most` entries from a place on.
 pub(crate) fn some_from(held: &[Entry], place: usize, most: usize) -> &[Entry]
     ensures { result.now ≡ take most (drop place held.now) }
 {

@@ -4,20 +4,20 @@ use Rattle.std.specs.Prelude.{◌&&◌, not}
 use Rattle.std.proofs.lemmas.List.{map-append, reverse-append}
 use Rattle.host_ids.specs.declared.proposal.Proposal.{Proposal}
 use Rattle.host_ids.specs.declared.proposal.Proposal.TheVariants as proposals
-use Rattle.object_model.specs.declared.course.Step.{Step}
+use Rattle.object_model.specs.declared.course.CourseStep.{CourseStep}
 use Rattle.object_model.specs.Object.{Pairs}
 use Rattle.object_model.specs.Sequence.{touched, standing, stands, raised, raised_by, found_by, effect_of, does_act, client_of, after_all, verdict}
 use Rattle.object_model.specs.Course.{history_of, raised_on, found_on, Follows}
 
 -- the newest step's proposal is the newest of the history
-pub history_of-append : (steps : List Step) (s : Step) → history_of (steps ++ s ∷ []) ≡ s.proposal ∷ history_of steps
+pub history_of-append : (steps : List CourseStep) (s : CourseStep) → history_of (steps ++ s ∷ []) ≡ s.proposal ∷ history_of steps
 history_of-append steps s = rw (map-append, reverse-append) refl
 
-raised_on-append : (client value : ℕ) (steps : List Step) (s : Step) → raised_on client value (steps ++ s ∷ []) ≡ raised_by client s.proposal s.stood (raised_on client value steps)
+raised_on-append : (client value : ℕ) (steps : List CourseStep) (s : CourseStep) → raised_on client value (steps ++ s ∷ []) ≡ raised_by client s.proposal s.stood (raised_on client value steps)
 raised_on-append client value [] s = refl
 raised_on-append client value (t ∷ steps) s = raised_on-append client (raised_by client t.proposal t.stood value) steps s
 
-found_on-append : (client series : ℕ) (found : Option (List ℕ)) (steps : List Step) (s : Step)
+found_on-append : (client series : ℕ) (found : Option (List ℕ)) (steps : List CourseStep) (s : CourseStep)
     → found_on client series found (steps ++ s ∷ []) ≡ found_by client series s.proposal s.acts s.reply (found_on client series found steps)
 found_on-append client series found [] s = refl
 found_on-append client series found (t ∷ steps) s = found_on-append client series (found_by client series t.proposal t.acts t.reply found) steps s
@@ -54,7 +54,7 @@ found_same client series (proposals.Register c) false reply other found h = refl
 found_same client series (proposals.Close c) false reply other found h = refl
 
 -- a step more: what is kept follows the history on
-pub follows_more : (limit : ℕ) (steps more : List Step) (clients touched_ones : List ℕ) (pairs changed_ones : Pairs) (s : Step) → Follows limit steps clients pairs → more ≡ steps ++ s ∷ []
+pub follows_more : (limit : ℕ) (steps more : List CourseStep) (clients touched_ones : List ℕ) (pairs changed_ones : Pairs) (s : CourseStep) → Follows limit steps clients pairs → more ≡ steps ++ s ∷ []
     → s.stood ≡ stands limit (client_of s.proposal) (history_of steps)
     → s.acts ≡ does_act (verdict limit (history_of steps) s.proposal)
     → (s.acts ≡ true → s.reply ≡ (effect_of s.proposal pairs).reply)

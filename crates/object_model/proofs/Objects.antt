@@ -8,24 +8,26 @@ use Rattle.std.proofs.lemmas.Bool.{and_parts, and_from, or_cases, cond_both}
 use Rattle.std.proofs.lemmas.Bool.Decides.{nat_tests}
 use Rattle.std.proofs.lemmas.List.Folds.{list_all-append}
 use Rattle.std.proofs.lemmas.Fmt.{decimal_by_steps, decimal_nonempty, length-decimal-le}
+use Rattle.host_ids.specs.declared.proposal.TheConstants.{MOST_COMMAND}
 use Rattle.object_model.specs.declared.command.Command.{Command}
 use Rattle.object_model.specs.declared.command.Command.TheVariants as commands
 use Rattle.object_model.specs.declared.command.Change.{Change}
 use Rattle.object_model.specs.declared.command.Change.TheVariants as changes
 use Rattle.object_model.specs.Words.{words_of, word, begins, is_key, is_value, is_value_byte, number_of}
 use Rattle.object_model.specs.Command.{most_number, put_of, del_of, add_by, add_of, command_in, command_of}
-use Rattle.object_model.specs.Object.{Pairs, key_order, value_at, shown, most_keys, fitting, sum_by, sum_of, refuses, stores, adds, key_of, change_of, changed, after_any, after}
+use Rattle.object_model.specs.Object.{Pairs, key_order, value_at, shown, fitting, sum_by, sum_of, refuses, stores, adds, key_of, change_of, changed, after_any, after}
+use Rattle.object_model.specs.declared.command.TheConstants.{MOST_KEYS}
 use Rattle.object_model.specs.Image.{is_ascending, is_pair, is_object, StaysObject, FirstIsObject}
 use Rattle.object_model.proofs.Ordered.{inserted_ascending, inserted_pairs, inserted_count, inserted_there, removed_ascending, removed_pairs, removed_count}
 
 -- ---- words of a text
 
--- each part has at most so many bytes
+-- each part has at most n bytes
 abbrev EachWithin : ℕ → List (List ℕ) → Type 0
 EachWithin n [] = Unit {0}
 EachWithin n (part ∷ parts) = (length part ≤ n) × EachWithin n parts
 
--- what has at most so many bytes has at most one more
+-- what has at most n bytes has at most n + 1
 within_more : (n : ℕ) (parts : List (List ℕ)) → EachWithin n parts → EachWithin (suc n) parts
 within_more n [] h = tt
 within_more n (part ∷ parts) h = let first = h.0 in (omega arith, within_more n parts h.1)
@@ -44,7 +46,7 @@ split_within p (x ∷ xs) =
     (λ q. (omega arith, within_more (length xs) (slice_split p xs) rest))
     (λ q. within_onto (length xs) x (slice_split p xs) rest)
 
--- the part at a place, or nothing past the end, has at most so many bytes too
+-- the part at a place, or nothing past the end, has at most n bytes too
 within_at : (n : ℕ) (parts : List (List ℕ)) (place : ℕ) → EachWithin n parts → length (slice_index_or parts place []) ≤ n
 within_at n [] place h = omega arith
 within_at n (part ∷ parts) zero h = h.0
@@ -59,10 +61,10 @@ IsFormed (commands.Del key) = Unit {0}
 IsFormed (commands.Add key number) = is_key key ≡ true
 
 -- a put with a value of at most 512 bytes has its forms
-formed_put : (words : List (List ℕ)) → length (word words 2) ≤ 512 → IfSome (put_of words) IsFormed
+formed_put : (words : List (List ℕ)) → length (word words 2) ≤ MOST_COMMAND → IfSome (put_of words) IsFormed
 formed_put words h =
     cond_both (is_key (word words 1) && is_value (word words 2)) (Some (commands.Put (word words 1) (word words 2))) None (λ (o : Option Command). IfSome o IsFormed)
-    (λ q. and_from (is_key (word words 1) && is_value (word words 2)) (nat_le (length (word words 2)) 512) q (le-leb (length (word words 2)) 512 h))
+    (λ q. and_from (is_key (word words 1) && is_value (word words 2)) (nat_le (length (word words 2)) MOST_COMMAND) q (le-leb (length (word words 2)) MOST_COMMAND h))
     (λ q. tt)
 
 -- a del has its forms
@@ -82,14 +84,14 @@ formed_add words =
     (λ q. tt)
 
 -- words, the third of at most 512 bytes, give a command that has its forms
-formed_in : (words : List (List ℕ)) → length (word words 2) ≤ 512 → IfSome (command_in words) IsFormed
+formed_in : (words : List (List ℕ)) → length (word words 2) ≤ MOST_COMMAND → IfSome (command_in words) IsFormed
 formed_in words h =
     cond_both (begins words 3 (codes "put")) (put_of words) _ (λ (o : Option Command). IfSome o IsFormed) (λ q. formed_put words h)
     (λ q. cond_both (begins words 2 (codes "del")) (del_of words) _ (λ (o : Option Command). IfSome o IsFormed) (λ p. formed_del words)
     (λ p. cond_both (begins words 3 (codes "add")) (add_of words) None (λ (o : Option Command). IfSome o IsFormed) (λ r. formed_add words) (λ r. tt)))
 
 -- the command that a text of at most 512 bytes is has its forms
-formed : (text : List ℕ) → length text ≤ 512 → IfSome (command_of text) IsFormed
+formed : (text : List ℕ) → length text ≤ MOST_COMMAND → IfSome (command_of text) IsFormed
 unfolding command_of
 formed text h =
     let third = within_at (length text) (words_of text) 2 (split_within (λ b. b == 32) text) in
@@ -136,45 +138,45 @@ sum_fits (Some value) number = sum_by_fits (number_of most_number value) number
 record IsObject (pairs : Pairs) : Type 0 where
   ascending : is_ascending pairs ≡ true
   formed : list_all is_pair pairs ≡ true
-  few : length pairs ≤ most_keys
+  few : length pairs ≤ MOST_KEYS
 
 -- an object has these parts
 object_parts : (pairs : Pairs) → is_object pairs ≡ true → IsObject pairs
 object_parts pairs h =
-    let parts = and_parts (is_ascending pairs && list_all is_pair pairs) (nat_le (length pairs) most_keys) h in
+    let parts = and_parts (is_ascending pairs && list_all is_pair pairs) (nat_le (length pairs) MOST_KEYS) h in
     let front = and_parts (is_ascending pairs) (list_all is_pair pairs) parts.0 in
-    record { ascending = front.0; formed = front.1; few = leb-true (length pairs) most_keys parts.1 }
+    record { ascending = front.0; formed = front.1; few = leb-true (length pairs) MOST_KEYS parts.1 }
 
 -- and these parts make an object
-object_from : (pairs : Pairs) → is_ascending pairs ≡ true → list_all is_pair pairs ≡ true → length pairs ≤ most_keys → is_object pairs ≡ true
-object_from pairs a f l = and_from (is_ascending pairs && list_all is_pair pairs) (nat_le (length pairs) most_keys) (and_from (is_ascending pairs) (list_all is_pair pairs) a f) (le-leb (length pairs) most_keys l)
+object_from : (pairs : Pairs) → is_ascending pairs ≡ true → list_all is_pair pairs ≡ true → length pairs ≤ MOST_KEYS → is_object pairs ≡ true
+object_from pairs a f l = and_from (is_ascending pairs && list_all is_pair pairs) (nat_le (length pairs) MOST_KEYS) (and_from (is_ascending pairs) (list_all is_pair pairs) a f) (le-leb (length pairs) MOST_KEYS l)
 
 -- a value that is found is short
-found_within : (test : List ℕ → Bool) (pairs : Pairs) → list_all is_pair pairs ≡ true → IfSome (lookup test pairs) (λ v. length v ≤ 512)
+found_within : (test : List ℕ → Bool) (pairs : Pairs) → list_all is_pair pairs ≡ true → IfSome (lookup test pairs) (λ v. length v ≤ MOST_COMMAND)
 found_within test [] h = tt
 found_within test (e ∷ rest) h =
     let parts = and_parts (is_pair e) (list_all is_pair rest) h in
-    cond_both (test e.0) (Some e.1) (lookup test rest) (λ (o : Option (List ℕ)). IfSome o (λ v. length v ≤ 512))
-    (λ q. leb-true (length e.1) 512 (and_parts (is_key e.0 && is_value e.1) (nat_le (length e.1) 512) parts.0).1)
+    cond_both (test e.0) (Some e.1) (lookup test rest) (λ (o : Option (List ℕ)). IfSome o (λ v. length v ≤ MOST_COMMAND))
+    (λ q. leb-true (length e.1) MOST_COMMAND (and_parts (is_key e.0 && is_value e.1) (nat_le (length e.1) MOST_COMMAND) parts.0).1)
     (λ q. found_within test rest parts.1)
 
 -- a short value, or none, is shown in short
-shown_by : (found : Option (List ℕ)) → IfSome found (λ v. length v ≤ 512) → length (shown found) ≤ 512
+shown_by : (found : Option (List ℕ)) → IfSome found (λ v. length v ≤ MOST_COMMAND) → length (shown found) ≤ MOST_COMMAND
 shown_by None h = omega arith
 shown_by (Some value) h = h
 
 -- a value of an object is shown in short
-shown_short : (pairs : Pairs) (key : List ℕ) → IsObject pairs → length (shown (value_at pairs key)) ≤ 512
+shown_short : (pairs : Pairs) (key : List ℕ) → IsObject pairs → length (shown (value_at pairs key)) ≤ MOST_COMMAND
 shown_short pairs key object = shown_by (value_at pairs key) (found_within (is_at (key_order key)) pairs object.formed)
 
 -- a change with a short reply that stores a key and a value of their forms, and few enough
 abbrev IsGood : Pairs → List ℕ → Change → Type 0
-IsGood pairs key (changes.Keeps reply) = length reply ≤ 512
-IsGood pairs key (changes.Stores value reply) = (is_pair (key, value) ≡ true) × (length reply ≤ 512) × (length (insert_entry key_order pairs key value) ≤ most_keys)
-IsGood pairs key (changes.Removes reply) = length reply ≤ 512
+IsGood pairs key (changes.Keeps reply) = length reply ≤ MOST_COMMAND
+IsGood pairs key (changes.Stores value reply) = (is_pair (key, value) ≡ true) × (length reply ≤ MOST_COMMAND) × (length (insert_entry key_order pairs key value) ≤ MOST_KEYS)
+IsGood pairs key (changes.Removes reply) = length reply ≤ MOST_COMMAND
 
 -- a good change leaves an object, with a short reply
-good_changed : (pairs : Pairs) (key : List ℕ) (change : Change) → is_object pairs ≡ true → IsGood pairs key change → (is_object (changed pairs key change).pairs ≡ true) × (length (changed pairs key change).reply ≤ 512)
+good_changed : (pairs : Pairs) (key : List ℕ) (change : Change) → is_object pairs ≡ true → IsGood pairs key change → (is_object (changed pairs key change).pairs ≡ true) × (length (changed pairs key change).reply ≤ MOST_COMMAND)
 good_changed pairs key (changes.Keeps reply) h good = (h, good)
 good_changed pairs key (changes.Stores value reply) h good =
     let object = object_parts pairs h in
@@ -187,17 +189,17 @@ good_changed pairs key (changes.Removes reply) h good =
     (object_from (remove_entry test pairs) (removed_ascending test pairs object.ascending) (removed_pairs test pairs object.formed) (omega arith), good)
 
 -- a value is stored only where there is room
-room : (pairs : Pairs) (key value : List ℕ) → IsObject pairs → (is_some (value_at pairs key) || nat_lt (length pairs) most_keys) ≡ true → length (insert_entry key_order pairs key value) ≤ most_keys
+room : (pairs : Pairs) (key value : List ℕ) → IsObject pairs → (is_some (value_at pairs key) || nat_lt (length pairs) MOST_KEYS) ≡ true → length (insert_entry key_order pairs key value) ≤ MOST_KEYS
 room pairs key value object h =
     let few = object.few in
     ⊎_elim (λ s. let same = inserted_there key value pairs object.ascending s in omega arith)
-    (λ l. let less = ltb-true (length pairs) most_keys l in let more = inserted_count key value pairs in omega arith)
-    (or_cases (is_some (value_at pairs key)) (nat_lt (length pairs) most_keys) h)
+    (λ l. let less = ltb-true (length pairs) MOST_KEYS l in let more = inserted_count key value pairs in omega arith)
+    (or_cases (is_some (value_at pairs key)) (nat_lt (length pairs) MOST_KEYS) h)
 
 -- to store a value of its form is good
-stores_good : (pairs : Pairs) (key value reply : List ℕ) → IsObject pairs → is_pair (key, value) ≡ true → length reply ≤ 512 → IsGood pairs key (stores (value_at pairs key) (length pairs) value reply)
+stores_good : (pairs : Pairs) (key value reply : List ℕ) → IsObject pairs → is_pair (key, value) ≡ true → length reply ≤ MOST_COMMAND → IsGood pairs key (stores (value_at pairs key) (length pairs) value reply)
 stores_good pairs key value reply object pair short =
-    cond_both (is_some (value_at pairs key) || nat_lt (length pairs) most_keys) (changes.Stores value reply) refuses (λ (change : Change). IsGood pairs key change)
+    cond_both (is_some (value_at pairs key) || nat_lt (length pairs) MOST_KEYS) (changes.Stores value reply) refuses (λ (change : Change). IsGood pairs key change)
     (λ q. (pair, short, room pairs key value object q))
     (λ q. omega arith)
 
@@ -206,8 +208,8 @@ adds_good : (pairs : Pairs) (key : List ℕ) (sum : Option ℕ) → IsObject pai
 adds_good pairs key None object k h = omega arith
 adds_good pairs key (Some sum) object k h =
     let short = decimal_short sum h in
-    let few : length (decimal sum) ≤ 512 = omega arith in
-    stores_good pairs key (decimal sum) (decimal sum) object (and_from (is_key key && is_value (decimal sum)) (nat_le (length (decimal sum)) 512) (and_from (is_key key) (is_value (decimal sum)) k (decimal_value sum h)) (le-leb (length (decimal sum)) 512 few)) few
+    let few : length (decimal sum) ≤ MOST_COMMAND = omega arith in
+    stores_good pairs key (decimal sum) (decimal sum) object (and_from (is_key key && is_value (decimal sum)) (nat_le (length (decimal sum)) MOST_COMMAND) (and_from (is_key key) (is_value (decimal sum)) k (decimal_value sum h)) (le-leb (length (decimal sum)) MOST_COMMAND few)) few
 
 -- what a command with its forms changes is good
 change_good : (pairs : Pairs) (command : Command) → IsObject pairs → IsFormed command → IsGood pairs (key_of command) (change_of command (value_at pairs (key_of command)) (length pairs))
@@ -218,20 +220,20 @@ change_good pairs (commands.Add key number) object h = adds_good pairs key (sum_
 -- ---- texts
 
 -- a command with its forms, or none, leaves an object
-any_stays : (pairs : Pairs) (command : Option Command) → is_object pairs ≡ true → IfSome command IsFormed → (is_object (after_any pairs command).pairs ≡ true) × (length (after_any pairs command).reply ≤ 512)
+any_stays : (pairs : Pairs) (command : Option Command) → is_object pairs ≡ true → IfSome command IsFormed → (is_object (after_any pairs command).pairs ≡ true) × (length (after_any pairs command).reply ≤ MOST_COMMAND)
 any_stays pairs None h formed = (h, omega arith)
 any_stays pairs (Some command) h formed =
     good_changed pairs (key_of command) (change_of command (value_at pairs (key_of command)) (length pairs)) h (change_good pairs command (object_parts pairs h) formed)
 
 -- the command of a text, which is none where that has more than 512 bytes, has its forms
-short_formed : (text : List ℕ) → IfSome (cond (nat_lt 512 (length text)) None (command_of text)) IsFormed
+short_formed : (text : List ℕ) → IfSome (cond (nat_lt MOST_COMMAND (length text)) None (command_of text)) IsFormed
 short_formed text =
-    cond_both (nat_lt 512 (length text)) None (command_of text) (λ (o : Option Command). IfSome o IsFormed) (λ q. tt) (λ q. formed text (ltb-false 512 (length text) q))
+    cond_both (nat_lt MOST_COMMAND (length text)) None (command_of text) (λ (o : Option Command). IfSome o IsFormed) (λ q. tt) (λ q. formed text (ltb-false MOST_COMMAND (length text) q))
 
 -- whatever text an object is given, it stays one, and the reply is short
 pub stays_object : StaysObject
 unfolding after
-stays_object pairs text h = any_stays pairs (cond (nat_lt 512 (length text)) None (command_of text)) h (short_formed text)
+stays_object pairs text h = any_stays pairs (cond (nat_lt MOST_COMMAND (length text)) None (command_of text)) h (short_formed text)
 
 -- no pairs are an object
 pub first_is_object : FirstIsObject

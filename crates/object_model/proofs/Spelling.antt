@@ -5,8 +5,10 @@ use Rattle.std.specs.List.{list_all, flat_map}
 use Rattle.std.specs.Int.{to_be_bytes, from_be_bytes, w16, w32}
 use Rattle.std.proofs.lemmas.Nat.{from_be_bytes-to_be_bytes_2, from_be_bytes-to_be_bytes_4}
 use Rattle.std.proofs.lemmas.Bool.{and_parts}
+use Rattle.host_ids.specs.declared.proposal.TheConstants.{MOST_COMMAND}
 use Rattle.object_model.specs.Words.{is_key, is_value, is_name_byte}
-use Rattle.object_model.specs.Object.{Pairs, most_keys}
+use Rattle.object_model.specs.Object.{Pairs}
+use Rattle.object_model.specs.declared.command.TheConstants.{MOST_KEYS}
 use Rattle.object_model.specs.Image.{spelt, is_ascending, is_pair, HasOneSpelling}
 
 -- two starts of one length before two ends give one list only where both are the same
@@ -41,10 +43,10 @@ pub record IsShort (e : List ℕ × List ℕ) : Type 0 where
 -- a pair of an object is short enough
 pub short_pair : (e : List ℕ × List ℕ) → is_pair e ≡ true → IsShort e
 short_pair e h =
-    let parts = and_parts (is_key e.0 && is_value e.1) (nat_le (length e.1) 512) h in
+    let parts = and_parts (is_key e.0 && is_value e.1) (nat_le (length e.1) MOST_COMMAND) h in
     let front = and_parts (is_key e.0) (is_value e.1) parts.0 in
     let most : length e.0 ≤ 64 = leb-true (length e.0) 64 (and_parts (list_all is_name_byte e.0 && nat_lt 0 (length e.0)) (nat_le (length e.0) 64) front.0).1 in
-    let most_value : length e.1 ≤ 512 = leb-true (length e.1) 512 parts.1 in
+    let most_value : length e.1 ≤ MOST_COMMAND = leb-true (length e.1) MOST_COMMAND parts.1 in
     record { key = omega arith; value = omega arith }
 
 -- a pair that is spelt before others tells itself and those
@@ -70,9 +72,9 @@ pairs_alike (e ∷ a) (f ∷ b) h k l q =
 -- two objects of one image are one
 pub has_one_spelling : HasOneSpelling
 has_one_spelling a b h k q =
-    let these = and_parts (is_ascending a && list_all is_pair a) (nat_le (length a) most_keys) h in
-    let those = and_parts (is_ascending b && list_all is_pair b) (nat_le (length b) most_keys) k in
-    let most_a : length a ≤ 1000000 = leb-true (length a) most_keys these.1 in
-    let most_b : length b ≤ 1000000 = leb-true (length b) most_keys those.1 in
+    let these = and_parts (is_ascending a && list_all is_pair a) (nat_le (length a) MOST_KEYS) h in
+    let those = and_parts (is_ascending b && list_all is_pair b) (nat_le (length b) MOST_KEYS) k in
+    let most_a : length a ≤ 1000000 = leb-true (length a) MOST_KEYS these.1 in
+    let most_b : length b ≤ 1000000 = leb-true (length b) MOST_KEYS those.1 in
     let parts = split_alike (to_be_bytes w32 (length a)) (to_be_bytes w32 (length b)) (flat_map (λ e. spelt e.0 ++ spelt e.1) a) (flat_map (λ e. spelt e.0 ++ spelt e.1) b) refl q in
     pairs_alike a b (and_parts (is_ascending a) _ these.0).1 (and_parts (is_ascending b) _ those.0).1 (same_32 (length a) (length b) (omega arith) (omega arith) parts.0) parts.1

@@ -32,11 +32,11 @@ reply_there limit place list h l p r n s e k g =
     let there = place_there list place p n s in
     (rw (e, k) at g) ∙ sym (ap (reply_next limit (history (place - 1) list)) there)
 
-pub ending_there : (limit place behind : ℕ) (list : List Placed) (h : List Proposal) (l : ℕ) (e : Placed) (r : Option Ending) → behind ≡ place - 1 → slice_get list behind ≡ Some e → l ≡ limit → h ≡ reverse (proposals_of (take behind list))
+pub ending_there : (limit place beyond : ℕ) (list : List Placed) (h : List Proposal) (l : ℕ) (e : Placed) (r : Option Ending) → beyond ≡ place - 1 → slice_get list beyond ≡ Some e → l ≡ limit → h ≡ reverse (proposals_of (take beyond list))
     → r ≡ ending_by (verdict l h e.proposal) e.proposal (state l h) → r ≡ ending_at limit list place
-ending_there limit place behind list h l e r b s q k g =
-    let same : h ≡ history behind (proposals_of list) = k ∙ ap (λ (x : List Proposal). reverse x) (sym (take-map (λ (x : Placed). x.proposal) behind list)) in
-    let here : r ≡ ending_next limit (history behind (proposals_of list)) (slice_get list behind) = (rw (q, same) at g) ∙ sym (ap (ending_next limit (history behind (proposals_of list))) s) in
+ending_there limit place beyond list h l e r b s q k g =
+    let same : h ≡ history beyond (proposals_of list) = k ∙ ap (λ (x : List Proposal). reverse x) (sym (take-map (λ (x : Placed). x.proposal) beyond list)) in
+    let here : r ≡ ending_next limit (history beyond (proposals_of list)) (slice_get list beyond) = (rw (q, same) at g) ∙ sym (ap (ending_next limit (history beyond (proposals_of list))) s) in
     here ∙ ap (λ (n : ℕ). ending_next limit (history n (proposals_of list)) (slice_get list n)) b
 
 -- what a look-up by index found

@@ -3,8 +3,10 @@ use Rattle.std.specs.Prelude.{◌≡◌, ◌≤◌, ℕ, zero, suc, ◌+◌, Lis
 use Rattle.std.specs.List.{list_all, flat_map}
 use Rattle.std.specs.Int.{to_be_bytes, from_be_bytes, w16, w32}
 use Rattle.std.specs.Ordering.{is_lt}
+use Rattle.host_ids.specs.declared.proposal.TheConstants.{MOST_COMMAND}
 use Rattle.object_model.specs.Words.{is_key, is_value}
-use Rattle.object_model.specs.Object.{Pairs, after, key_order, most_keys}
+use Rattle.object_model.specs.Object.{Pairs, after, key_order}
+use Rattle.object_model.specs.declared.command.TheConstants.{MOST_KEYS}
 
 -- a length of two bytes, and the bytes
 abbrev pub spelt : List ℕ → List ℕ
@@ -21,11 +23,11 @@ is_ascending (e ∷ []) = true
 is_ascending (e ∷ f ∷ rest) = is_lt (key_order e.0 f.0) && is_ascending (f ∷ rest)
 
 abbrev pub is_pair : List ℕ × List ℕ → Bool
-is_pair e = is_key e.0 && is_value e.1 && nat_le (length e.1) 512
+is_pair e = is_key e.0 && is_value e.1 && nat_le (length e.1) MOST_COMMAND
 
 -- pairs that an object may have
 abbrev pub is_object : Pairs → Bool
-is_object pairs = is_ascending pairs && list_all is_pair pairs && nat_le (length pairs) most_keys
+is_object pairs = is_ascending pairs && list_all is_pair pairs && nat_le (length pairs) MOST_KEYS
 
 -- bytes that are the image of an object
 pub record IsImage (bytes : List ℕ) : Type 0 where
@@ -35,17 +37,17 @@ pub record IsImage (bytes : List ℕ) : Type 0 where
 
 -- ---- reading: the pairs, or the place of the first length or count that is refused
 
--- so many bytes, and what stands after them
+-- the first n bytes, and what stands after them
 abbrev pub part_of : ℕ → List ℕ → Option (List ℕ × List ℕ)
 part_of n bytes = if nat_le n (length bytes) then Some (take n bytes, drop n bytes) else None
 
-abbrev pub text_behind : Option (List ℕ × List ℕ) → Option (List ℕ × List ℕ)
-text_behind None = None
-text_behind (Some p) = part_of (from_be_bytes w16 p.0) p.1
+abbrev pub text_beyond : Option (List ℕ × List ℕ) → Option (List ℕ × List ℕ)
+text_beyond None = None
+text_beyond (Some p) = part_of (from_be_bytes w16 p.0) p.1
 
 -- a text after its length, and what stands after it; none where the length or the text is cut short
 abbrev pub text_in : List ℕ → Option (List ℕ × List ℕ)
-text_in bytes = text_behind (part_of 2 bytes)
+text_in bytes = text_beyond (part_of 2 bytes)
 
 -- a key may come next
 abbrev pub is_next : Option (List ℕ) → List ℕ → Bool
@@ -54,7 +56,7 @@ is_next (Some before) key = is_key key && is_lt (key_order before key)
 
 -- a value has at most 512 bytes
 abbrev pub is_stored : List ℕ → Bool
-is_stored value = is_value value && nat_le (length value) 512
+is_stored value = is_value value && nat_le (length value) MOST_COMMAND
 
 -- a text that is there and passes is followed by what comes next; else its length is the place
 abbrev pub with_text : ℕ → Option (List ℕ × List ℕ) → (List ℕ → Bool) → (List ℕ → List ℕ → Result Pairs ℕ) → Result Pairs ℕ
@@ -65,7 +67,7 @@ abbrev pub with_first : List ℕ × List ℕ → Result Pairs ℕ → Result Pai
 with_first e (Ok es) = Ok (e ∷ es)
 with_first e (Err at) = Err at
 
--- so many pairs after a key, and nothing after them
+-- n pairs after a key, and nothing after them
 unfoldable pub read_pairs : ℕ → Option (List ℕ) → ℕ → List ℕ → Result Pairs ℕ
 read_pairs zero before at [] = Ok []
 read_pairs zero before at (b ∷ bytes) = Err at
@@ -76,7 +78,7 @@ read_pairs (suc n) before at bytes =
 
 abbrev pub counted : Option (List ℕ × List ℕ) → Result Pairs ℕ
 counted None = Err 0
-counted (Some p) = if nat_le (from_be_bytes w32 p.0) most_keys then read_pairs (from_be_bytes w32 p.0) None 4 p.1 else Err 0
+counted (Some p) = if nat_le (from_be_bytes w32 p.0) MOST_KEYS then read_pairs (from_be_bytes w32 p.0) None 4 p.1 else Err 0
 
 -- the object that bytes are the image of, or the place of the first length or count that is refused: a key or a value that is refused or cut short counts at its length, bytes after the last pair at their first
 unfoldable pub read_image : List ℕ → Result Pairs ℕ
@@ -101,7 +103,7 @@ HasOneSpelling = (a b : Pairs) → is_object a ≡ true → is_object b ≡ true
 
 -- whatever text an object is given, it stays one, and its reply has at most 512 bytes
 abbrev pub StaysObject : Type 0
-StaysObject = (pairs : Pairs) (text : List ℕ) → is_object pairs ≡ true → (is_object (after pairs text).pairs ≡ true) × (length (after pairs text).reply ≤ 512)
+StaysObject = (pairs : Pairs) (text : List ℕ) → is_object pairs ≡ true → (is_object (after pairs text).pairs ≡ true) × (length (after pairs text).reply ≤ MOST_COMMAND)
 
 -- the first object has no pairs
 abbrev pub FirstIsObject : Type 0

@@ -5,6 +5,7 @@ use Rattle.std.specs.Ordering.{nat_cmp}
 use Rattle.std.specs.Cmp.Lexicographic.{slice_cmp}
 use Rattle.std.specs.BTreeMap.{insert_entry, is_at}
 use Rattle.std.specs.Map.{lookup, remove_entry}
+use Rattle.host_ids.specs.declared.proposal.TheConstants.{MOST_COMMAND}
 use Rattle.object_model.specs.declared.command.Command.{Command}
 use Rattle.object_model.specs.declared.command.Command.TheVariants as commands
 use Rattle.object_model.specs.declared.command.Change.{Change}
@@ -13,6 +14,7 @@ use Rattle.object_model.specs.declared.command.Query.{Query}
 use Rattle.object_model.specs.declared.command.Query.TheVariants as queries
 use Rattle.object_model.specs.Words.{number_of}
 use Rattle.object_model.specs.Command.{command_of, query_of, most_number}
+use Rattle.object_model.specs.declared.command.TheConstants.{MOST_KEYS}
 
 -- the pairs of keys and values, by their keys in ascending order of bytes
 abbrev pub Pairs : Type 0
@@ -27,10 +29,6 @@ value_at pairs key = lookup (is_at (key_order key)) pairs
 -- a value as it is shown, or `-` where there is none
 abbrev pub shown : Option (List ℕ) → List ℕ
 shown found = unwrap_or found (codes "-")
-
--- as many keys may stand
-abbrev pub most_keys : ℕ
-most_keys = 1000000
 
 -- what a command leaves and replies
 pub record Updated : Type 0 where
@@ -56,7 +54,7 @@ refuses = changes.Keeps (codes "!")
 
 -- a value is stored where the key has one already, or where there is room for one key more
 abbrev pub stores : Option (List ℕ) → ℕ → List ℕ → List ℕ → Change
-stores found count value reply = if is_some found || nat_lt count most_keys then changes.Stores value reply else refuses
+stores found count value reply = if is_some found || nat_lt count MOST_KEYS then changes.Stores value reply else refuses
 
 abbrev pub adds : Option (List ℕ) → ℕ → Option ℕ → Change
 adds found count None = refuses
@@ -67,7 +65,7 @@ key_of (commands.Put key value) = key
 key_of (commands.Del key) = key
 key_of (commands.Add key number) = key
 
--- what a command does at its key, where that has this value or none and so many keys stand
+-- what a command does at its key, where that has this value or none and `count` keys stand
 abbrev pub change_of : Command → Option (List ℕ) → ℕ → Change
 change_of (commands.Put key value) found count = stores found count value (shown found)
 change_of (commands.Del key) found count = changes.Removes (shown found)
@@ -87,7 +85,7 @@ after_any pairs (Some command) = after_command pairs command
 
 -- a text on the object: one of more than 512 bytes is no command
 unfoldable pub after : Pairs → List ℕ → Updated
-after pairs text = after_any pairs (if nat_lt 512 (length text) then None else command_of text)
+after pairs text = after_any pairs (if nat_lt MOST_COMMAND (length text) then None else command_of text)
 
 abbrev pub answer_query : Pairs → Query → List ℕ
 answer_query pairs (queries.Get key) = shown (value_at pairs key)

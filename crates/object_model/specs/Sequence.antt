@@ -18,7 +18,7 @@ has client clients = list_any (λ c. c == client) clients
 abbrev pub without : ℕ → List ℕ → List ℕ
 without client clients = filter (λ c. not (c == client)) clients
 
--- where so many stand, the first is evicted to make room
+-- where `limit` clients stand, the first is evicted to make room
 abbrev pub with_room : ℕ → List ℕ → List ℕ
 with_room limit clients = if nat_le limit (length clients) then drop 1 clients else clients
 

@@ -10,7 +10,7 @@ words_of text = slice_split (λ b. b == 32) text
 abbrev pub word : List (List ℕ) → ℕ → List ℕ
 word words place = slice_index_or words place []
 
--- there are so many words, and the first is this
+-- there are `count` words, and the first is `verb`
 abbrev pub begins : List (List ℕ) → ℕ → List ℕ → Bool
 begins words count verb = (length words == count) && bytes_eq (word words 0) verb
 
@@ -22,7 +22,7 @@ is_name_byte b = (nat_le 97 b && nat_le b 122) || (nat_le 48 b && nat_le b 57)
 abbrev pub is_value_byte : ℕ → Bool
 is_value_byte b = is_name_byte b || (b == 46) || (b == 95)
 
--- one byte or more of a name, and at most so many
+-- one byte or more of a name, and at most `most`
 abbrev pub is_name : List ℕ → ℕ → Bool
 is_name text most = list_all is_name_byte text && nat_lt 0 (length text) && nat_le (length text) most
 

@@ -68,8 +68,8 @@ pub enum Query {
     Count,
 }
 
-/// A value as it is shown: its own bytes, or `-` where there is none. The only error is want of
-/// memory. Source: this project's own.
+/// A value as it is shown: its own bytes, or `-` where there is none. The only error is
+/// `NoMemory`. Source: this project's own.
 pub fn shown(alloc: Global, found: Option<&Text>) -> Result<Text, NoMemory>
     ensures { IfOk result (λ text. text ≡ shown (option_copied found.entry)) }
 {
@@ -125,7 +125,7 @@ impl Command {
         }
     }
 
-    /// What it does at its key, where the key has this value or none and so many keys stand. The
+    /// What it does at its key, where the key has this value or none and this number of keys stand. The
     /// only error is `NoMemory`.
     pub fn change(
         &self,

@@ -11,7 +11,7 @@ use std::marker::Model;
 
 /// A proposal of a course, and what came of it.
 #[derive(Drop)]
-pub struct Step {
+pub struct CourseStep {
     pub proposal: Proposal,
     pub stood: bool,
     pub acts: bool,
@@ -23,7 +23,7 @@ pub struct Step {
 pub struct Course {
     alloc: Global,
     limit: u64,
-    steps: Vec<Step>,
+    steps: Vec<CourseStep>,
     clients: Vec<u64>,
     pairs: Pairs,
 }
@@ -153,7 +153,7 @@ fn effect_if(
 }
 
 /// The responded value of a client after a step.
-fn raised_step(client: u64, step: &Step, value: u64) -> u64
+fn raised_step(client: u64, step: &CourseStep, value: u64) -> u64
     ensures { result ≡ raised_by client step.now.proposal step.now.stood value }
 {
     match &step.proposal {
@@ -183,7 +183,7 @@ fn raised_step(client: u64, step: &Step, value: u64) -> u64
 fn found_step<'a>(
     client: u64,
     series: u64,
-    step: &'a Step,
+    step: &'a CourseStep,
     found: Option<&'a Text>,
 ) -> Option<&'a Text>
     ensures { option_copied result ≡ found_by client series step.now.proposal step.now.acts step.now.reply (option_copied found.entry) }
@@ -349,7 +349,7 @@ impl Course {
         } = self;
         let clients = touched(alloc, limit, &proposal, &clients)?;
         let reply = effect_if(alloc, acts, &mut pairs, &proposal)?;
-        steps.push(Step {
+        steps.push(CourseStep {
             proposal,
             stood,
             acts,

@@ -396,7 +396,7 @@ fn good_stale(
     Ok(answer.bytes() == expected.bytes())
 }
 
-/// So many entries are shown.
+/// The number of entries that are shown.
 fn count_shown(marks: &[Mark]) -> u64
     ensures { result ≡ length (entries marks.now) }
 {

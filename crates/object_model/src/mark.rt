@@ -93,14 +93,14 @@ pub enum Mark {
     Reads {
         /// Its context.
         context: Text,
-        /// So many places had been applied.
+        /// The number of places that had been applied.
         front: u64,
         /// The answer.
         answer: Text,
     },
-    /// A query is answered from what one host has applied, which may be behind.
+    /// A query is answered from what one host has applied, which may lag.
     Stales {
-        /// So many places had been applied.
+        /// The number of places that had been applied.
         front: u64,
         /// The query that was asked.
         query: Text,

@@ -3,7 +3,7 @@ ghost use Rattle.std.specs.Option.{option_copied};
 ghost use Rattle.object_model.specs.Object.{after, after_any, after_command, answer, changed, value_at};
 
 use crate::command::{Change, Command, Query, command_of, decimal, query_of, shown};
-use host_ids::{NoMemory, Text};
+use host_ids::{MOST_COMMAND, NoMemory, Text};
 use std::alloc::Global;
 use std::collections::BTreeMap;
 use std::marker::Model;
@@ -68,7 +68,7 @@ impl Pairs {
         ensures pairs { OnOk result (self.new ≡ (after self.old text.now).pairs) }
         ensures reply { IfOk result (λ reply. reply ≡ (after self.old text.now).reply) }
     {
-        if text.bytes().len() > 512 {
+        if text.bytes().len() > MOST_COMMAND {
             return Text::new(self.alloc, b"!");
         }
         match command_of(self.alloc, text.bytes())? {

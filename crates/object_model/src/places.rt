@@ -127,11 +127,11 @@ pub fn ending_at(
 ) -> Result<Option<Ending>, NoMemory>
     ensures { IfOk result (λ ending. ending ≡ ending_at limit list.now place) }
 {
-    let behind = place.saturating_sub(1) as usize;
-    match list.get(behind) {
+    let beyond = place.saturating_sub(1) as usize;
+    match list.get(beyond) {
         None => Ok(None),
         Some(placed) => {
-            follow_places(alloc, limit, first(list, behind))?.ending(&placed.proposal)
+            follow_places(alloc, limit, first(list, beyond))?.ending(&placed.proposal)
         }
     }
 }

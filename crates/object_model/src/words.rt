@@ -54,7 +54,7 @@ impl<'a> Words<'a> {
         self.word(place) == text
     }
 
-    /// Whether there are so many words, and the first is this one.
+    /// Whether there are `count` words, and the first is `verb`.
     pub fn begins(&self, count: usize, verb: &[u8]) -> bool
         ensures { result ≡ begins self.now count verb.now }
     {

@@ -21,7 +21,7 @@ fn first_new(log: &Log, commit: u64, prev: u64, entries: &[Entry]) -> Option<usi
     requires fits { prev + length entries.now < 2 ^ 64 }
     ensures laid { laid log.now commit prev entries.now ≡ laid_from log.now prev entries.now result }
     ensures within { IfSome result (λ place. place < length entries.now) }
-    ensures behind { IfSome result (λ place. log.now.front ≤ prev + place) }
+    ensures beyond { IfSome result (λ place. log.now.front ≤ prev + place) }
     ensures reached { IfSome result (λ place. prev + place ≤ last log.now) }
 {
     let mut place = 0;

@@ -3,7 +3,7 @@ use Rattle.std.proofs.Common.{◌≡◌, ◌∙◌, List, [], ◌∷◌, ◌++�
 use Rattle.std.proofs.lemmas.List.{append_assoc, append-nil}
 use Rattle.std.specs.Prelude.{◌==◌}
 use Rattle.std.specs.List.{All}
-use Rattle.wire_codec.specs.declared.envelope.Body.TheVariants as kinds
+use Rattle.wire_codec.specs.declared.envelope.Body.TheVariants as bodies
 use Rattle.read_index.specs.declared.reads.OpenRead.{OpenRead}
 use Rattle.raft_model.specs.declared.note.Note.{Note}
 use Rattle.raft_model.specs.declared.note.Note.TheVariants as notes
@@ -16,7 +16,7 @@ use Rattle.raft_core.specs.Confirming.{waits, confirm_from}
 abbrev told : Bool → Seat → OpenRead → Row → Row
 told b s read w =
     if b then record w { notes = w.notes ++ notes.Confirmed s.me read.key read.index ∷ [] }
-    else record w { replica = sent_in 0 s read.origin (kinds.ReadAnswer read.key read.index) w.replica }
+    else record w { replica = sent_in 0 s read.origin (bodies.ReadAnswer read.key read.index) w.replica }
 
 same_told : (b : Bool) (s : Seat) (read : OpenRead) (more : List OpenRead) (r : Replica) (ns : List Note)
     → (let w = told b s read (record { replica = waits more r; notes = ns }) in confirm_from s w.replica w.notes) ≡ confirm s more (told b s read (record { replica = waits [] r; notes = ns }))

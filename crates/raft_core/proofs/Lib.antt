@@ -1,8 +1,5 @@
 mod Fits
-mod Kept
-mod Votes
-mod Logs
-mod Mail
+mod Ranges
 mod Steps
 mod Waits
 mod Confirming

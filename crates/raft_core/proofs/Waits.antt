@@ -3,7 +3,7 @@ use Rattle.std.proofs.Common.{◌≡◌, ◌∙◌, ℕ, List, [], ◌∷◌, �
 use Rattle.std.proofs.lemmas.Bool.{cond_both}
 use Rattle.std.specs.Prelude.{◌==◌, ◌&&◌, nat_lt, nat_le, slice_set, if◌then◌else◌}
 use Rattle.host_ids.specs.declared.proposal.Proposal.TheVariants as proposals
-use Rattle.wire_codec.specs.declared.envelope.Body.TheVariants as kinds
+use Rattle.wire_codec.specs.declared.envelope.Body.TheVariants as bodies
 use Rattle.raft_model.specs.declared.state.State.{State as Replica}
 use Rattle.log_view.specs.Log.{last, term_at, slice}
 use Rattle.roster.specs.Roster.{Seat, at}
@@ -16,7 +16,7 @@ each_stays me f k (v ∷ vs) r = each_stays me f k vs (if v == me then r else f 
 
 append_to_stays : (s : Seat) (v : ℕ) (r : Replica) → (append_to s v r).pending ≡ r.pending
 append_to_stays s v r =
-    cond_both (nat_lt r.log.front (at r.next v) && nat_le (at r.next v) (last r.log + 1)) (sent s v (kinds.Append (at r.next v - 1) (term_at r.log (at r.next v - 1)) r.commit (slice r.log (at r.next v) 64)) r) r (λ q. q.pending ≡ r.pending) (λ _. refl) (λ _. refl)
+    cond_both (nat_lt r.log.front (at r.next v) && nat_le (at r.next v) (last r.log + 1)) (sent s v (bodies.Append (at r.next v - 1) (term_at r.log (at r.next v - 1)) r.commit (slice r.log (at r.next v) 64)) r) r (λ q. q.pending ≡ r.pending) (λ _. refl) (λ _. refl)
 
 pub lead_stays : (s : Seat) (r : Replica) → (lead s r).replica.pending ≡ r.pending
 lead_stays s r = each_stays s.me (append_to s) (append_to_stays s) s.voters (appended no_key proposals.Blank (crowned s r))

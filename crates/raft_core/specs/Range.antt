@@ -3,7 +3,7 @@ use Rattle.std.specs.Prelude.{◌≡◌, ◌≤◌, ◌<◌, ◌+◌, ◌^◌, �
 use Rattle.std.specs.List.{All}
 use Rattle.wire_codec.specs.declared.envelope.Body.{Body}
 use Rattle.wire_codec.specs.declared.envelope.Envelope.{Envelope}
-use Rattle.wire_codec.specs.declared.envelope.Body.TheVariants as kinds
+use Rattle.wire_codec.specs.declared.envelope.Body.TheVariants as bodies
 use Rattle.raft_model.specs.declared.chunk.Chunk.{Chunk}
 use Rattle.raft_model.specs.declared.input.Input.{Input}
 use Rattle.raft_model.specs.declared.input.Input.TheVariants as inputs
@@ -50,17 +50,17 @@ InRange r = Numbers r.term r.reads.round r.batches × Places (is_candidate r) r.
 
 -- the numbers of an envelope's body that a replica takes over
 abbrev pub BodyWithin : Body → Type 0
-BodyWithin (kinds.Vote l lt) = ⊤
-BodyWithin (kinds.VoteReply granted) = ⊤
-BodyWithin (kinds.Append prev pt c es) = (prev + length es ≤ 2 ^ 62) × (are_fit es ≡ true)
-BodyWithin (kinds.AppendReply ok i) = i ≤ 2 ^ 62
-BodyWithin (kinds.Beat c round) = ⊤
-BodyWithin (kinds.BeatReply round) = ⊤
-BodyWithin (kinds.SnapChunk index last_term number count size bytes) = (index ≤ 2 ^ 62) × (number + 1 < 2 ^ 32) × (count + 1 < 2 ^ 32)
-BodyWithin (kinds.SnapReply i want whole) = i ≤ 2 ^ 62
-BodyWithin (kinds.Propose key p) = is_fit p ≡ true
-BodyWithin (kinds.ReadAsk key) = ⊤
-BodyWithin (kinds.ReadAnswer key i) = ⊤
+BodyWithin (bodies.Vote l lt) = ⊤
+BodyWithin (bodies.VoteReply granted) = ⊤
+BodyWithin (bodies.Append prev pt c es) = (prev + length es ≤ 2 ^ 62) × (are_fit es ≡ true)
+BodyWithin (bodies.AppendReply ok i) = i ≤ 2 ^ 62
+BodyWithin (bodies.Beat c round) = ⊤
+BodyWithin (bodies.BeatReply round) = ⊤
+BodyWithin (bodies.SnapChunk index last_term number count size bytes) = (index ≤ 2 ^ 62) × (number + 1 < 2 ^ 32) × (count + 1 < 2 ^ 32)
+BodyWithin (bodies.SnapReply i want whole) = i ≤ 2 ^ 62
+BodyWithin (bodies.Propose key p) = is_fit p ≡ true
+BodyWithin (bodies.ReadAsk key) = ⊤
+BodyWithin (bodies.ReadAnswer key i) = ⊤
 
 -- an envelope comes from a host, its term and the numbers that a replica takes over from it are up to 2^62, and those of its proposals are in their ranges
 abbrev pub IsMail : Envelope → Type 0

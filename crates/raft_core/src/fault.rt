@@ -12,7 +12,7 @@ pub enum CoreFault {
         /// The number of the pending batch, 0 for none.
         pending: u64,
     },
-    /// Memory ran out: the replica is only to be dropped.
+    /// Memory ran out: the replica can only be dropped.
     #[error("memory ran out")]
     NoMemory,
 }

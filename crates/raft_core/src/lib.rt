@@ -14,6 +14,7 @@ mod sending;
 mod snapping;
 mod state;
 mod voting;
+mod within;
 
 pub use fault::CoreFault;
 pub use raft_model::{Chunk, Durable, Input, LaneEvent, LaneFault, Note, Received, Role};

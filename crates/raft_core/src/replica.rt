@@ -1,4 +1,4 @@
-ghost use Rattle.std.specs.Prelude.{◌≡◌, ◌≤◌, ◌++◌, ◌&&◌, not, length, true, false, List, [], ◌∷◌, OnOk, IfOk, IfErr, OnErr, IfSome, IfNone, None, Some, Err};
+ghost use Rattle.std.specs.Prelude.{◌≡◌, ◌≤◌, ◌++◌, ◌&&◌, ◌↔◌, IsTrue, not, length, true, false, [], ◌∷◌, OnOk, IfOk, IfErr, IfSome, IfNone, None, Some, Err};
 ghost use Rattle.std.specs.List.{All};
 ghost use Rattle.raft_model.specs.Replica.{may_release, quiet, is_changed, ripe};
 ghost use Rattle.raft_model.specs.Saving.{is_stuck};
@@ -6,19 +6,20 @@ ghost use Rattle.raft_model.specs.Step.{row, step, released, ready, after_ready,
 ghost use Rattle.raft_model.specs.declared.state.Pending.{Pending};
 ghost use Rattle.raft_model.specs.Given.{pending_id, is_pending_id};
 ghost use Rattle.raft_core.specs.Core.{begun};
-ghost use Rattle.raft_core.specs.Range.{IsWithin, InRange, IsMail, IsSeat, Holds};
+ghost use Rattle.raft_core.specs.Range.{IsWithin, InRange, IsMail, Holds};
 ghost use Rattle.raft_core.specs.Notes.{led_notes};
 ghost use Rattle.raft_core.specs.Marks.{mark as mark_by, saved_by};
 ghost use Rattle.std.specs.Option.{option_map, option_copied};
-ghost use Rattle.raft_core.specs.declared.fault.CoreFault.TheVariants as faults;
+ghost use Rattle.raft_core.specs.declared.fault.CoreFault.TheVariants as core_faults;
 
 use crate::fault::CoreFault;
 use crate::notes::leader_note;
-use crate::rows::{ranges, row_of};
-use crate::saving::{Mark, is_stuck_now, mark_of, ready_row, saved_row};
+use crate::rows::row_of;
+use crate::saving::{BatchMark, is_stuck_now, mark_of, ready_row, saved_row};
 use crate::seat::Seat;
 use crate::sending::{is_changed_now, may_send};
 use crate::state::fresh_state;
+use crate::within::is_input_within;
 use host_ids::{Batch, NoMemory};
 use log_view::Log;
 use raft_model::{Input, Note, Received, Role, State};
@@ -30,8 +31,8 @@ use wire_codec::{Envelope, Envelopes};
 /// One replica of a group.
 ///
 /// Clauses see it as the record of its seat, its state, and the envelopes that it has released to be
-/// sent and that `sent` hasn't handed out yet. Each call is a row of the step table. After want of
-/// memory a replica is only to be dropped: `step`, `ready` and `saved` answer `NoMemory` from
+/// sent and that `sent` hasn't handed out yet. Each call is a row of the step table. Once out
+/// of memory, a replica can only be dropped: `step`, `ready` and `saved` answer `NoMemory` from
 /// then on, so that it doesn't act on a state that a row left half done. Source: dissertation
 /// chapters 3, 5 and 6; batches, and envelopes that are held until what they promise is saved, are
 /// this project's own.
@@ -73,13 +74,20 @@ impl Replica {
         })
     }
 
+    /// Whether an input may be given to `step`.
+    pub fn is_within(&self, input: &Input) -> bool
+        ensures { IsTrue result ↔ IsWithin self.now.state input.now }
+    {
+        is_input_within(&self.state, input)
+    }
+
     /// The row of an input, and then what may go on the wire after it: it answers the notes.
     ///
     /// An envelope comes from a host, 1 to 9; its term and the indices of an Append's entries, of a reply
     /// and of a piece are at most 2^62; the number and the count of a piece are below 2^32-1. The same holds of a piece that is to be sent. The client of a proposal is at
     /// least 1, its series 1 to 2^64-3, its responded value at most 2^64-3; the same holds of the
     /// proposals of an envelope. An Installed has the index of the received snapshot. The only error
-    /// is `NoMemory`; then the replica is only to be dropped.
+    /// is `NoMemory`; after that the replica can only be dropped.
     pub fn step(&mut self, input: Input) -> Result<Vec<Note>, NoMemory>
         requires within { IsWithin self.old.state input }
         ensures replica { OnOk result (self.new.state ≡ (step self.old.seat input self.old.state).replica) }
@@ -101,7 +109,7 @@ impl Replica {
 
     /// The batch to save, which is pending from then on; `None` exactly where one is pending already,
     /// nothing changed since the last one, or its entries would have 2^31 bytes or more together. The
-    /// only error is `NoMemory`; then the replica is only to be dropped.
+    /// only error is `NoMemory`; after that the replica can only be dropped.
     pub fn ready(&mut self) -> Result<Option<Batch>, NoMemory>
         ensures replica { OnOk result (self.new.state ≡ after_ready self.old.state) }
         ensures batch { IfOk result (λ batch. batch ≡ ready self.old.state) }
@@ -122,11 +130,11 @@ impl Replica {
     /// envelopes; it answers the notes.
     ///
     /// `NotPending` comes exactly where `id` isn't the number of the pending batch; nothing changes
-    /// then. The only other error is `NoMemory`; then the replica is only to be dropped.
+    /// then. The only other error is `NoMemory`; after that the replica can only be dropped.
     pub fn saved(&mut self, id: u64) -> Result<Vec<Note>, CoreFault>
-        ensures not_pending { is_pending_id self.old.state id ≡ false → result ≡ Err (faults.NotPending (pending_id self.old.state)) }
+        ensures not_pending { is_pending_id self.old.state id ≡ false → result ≡ Err (core_faults.NotPending (pending_id self.old.state)) }
         ensures kept { is_pending_id self.old.state id ≡ false → self.new ≡ self.old }
-        ensures pending { is_pending_id self.old.state id ≡ true → IfErr result (λ fault. fault ≡ faults.NoMemory) }
+        ensures pending { is_pending_id self.old.state id ≡ true → IfErr result (λ fault. fault ≡ core_faults.NoMemory) }
         ensures replica { (p : Pending) → self.old.state.pending ≡ Some p → OnOk result (self.new.state ≡ (saved self.old.seat p self.old.state).replica) }
         ensures notes { (p : Pending) → self.old.state.pending ≡ Some p → IfOk result (λ notes. notes.items ≡ (saved self.old.seat p self.old.state).notes) }
         ensures sent { (p : Pending) → self.old.state.pending ≡ Some p → OnOk result (self.new.out ≡ self.old.out ++ (saved self.old.seat p self.old.state).sent) }
@@ -247,15 +255,7 @@ fn act(seat: &Seat, r: &mut State, input: Input) -> Result<Vec<Note>, NoMemory>
     ensures range { OnOk result (InRange r.new) }
     ensures holds { OnOk result (Holds r.new) }
 {
-    placed(seat);
     row_of(seat, r, input)
-}
-
-/// The host of a seat is one.
-fn placed(seat: &Seat)
-    ensures { IsSeat seat.now }
-{
-    let _me = seat.me();
 }
 
 /// The batch to save, which keeps the replica in range.
@@ -268,7 +268,6 @@ fn take_batch(r: &mut State) -> Result<Option<Batch>, NoMemory>
     ensures range { OnOk result (InRange r.new) }
     ensures holds { OnOk result (Holds r.new) }
 {
-    ranges(r, 0);
     ready_row(r)
 }
 
@@ -303,7 +302,7 @@ fn pending_number(r: &State, id: u64) -> (u64, bool)
 }
 
 /// What Saved needs of the pending batch.
-fn pending_mark(r: &State) -> Option<Mark>
+fn pending_mark(r: &State) -> Option<BatchMark>
     requires range { InRange r.now }
     ensures { result ≡ option_map (λ p. mark_by p.batch) r.now.pending }
 {
@@ -327,8 +326,8 @@ fn take_envelopes(alloc: Global, r: &mut State) -> Envelopes
 }
 
 /// What Saved makes of a replica; whether it leads now, and the envelopes that waited for the batch.
-#[tactic(auto, using(crate::proofs::Logs::saved_kept, crate::proofs::Steps::saved_holds))]
-fn finish(seat: &Seat, r: &mut State, mark: Mark) -> Result<(bool, Envelopes), NoMemory>
+#[tactic(auto, using(crate::proofs::Steps::saved_kept, crate::proofs::Steps::saved_holds))]
+fn finish(seat: &Seat, r: &mut State, mark: BatchMark) -> Result<(bool, Envelopes), NoMemory>
     requires range { InRange r.old }
     requires holds { Holds r.old }
     ensures replica { OnOk result (r.new ≡ (saved_by mark seat.now r.old).replica) }
@@ -338,8 +337,6 @@ fn finish(seat: &Seat, r: &mut State, mark: Mark) -> Result<(bool, Envelopes), N
     ensures holds { OnOk result (Holds r.new) }
     ensures mail { IfOk result (λ done. All IsMail done.1) }
 {
-    placed(seat);
-    ranges(r, 0);
     let led = saved_row(seat, r, mark)?;
     Ok((led, take_envelopes(seat.alloc(), r)))
 }
@@ -349,7 +346,7 @@ fn settle(
     seat: &Seat,
     r: &mut State,
     out: &mut VecDeque<Envelope>,
-    mark: Mark,
+    mark: BatchMark,
 ) -> Result<Vec<Note>, NoMemory>
     requires range { InRange r.old }
     requires holds { Holds r.old }

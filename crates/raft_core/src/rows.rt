@@ -1,10 +1,8 @@
-ghost use Rattle.std.specs.Prelude.{◌≡◌, ◌≤◌, ◌<◌, ◌+◌, ◌^◌, ◌∷◌, [], length, true, OnOk, IfOk, IfSome, IsSomeAnd};
+ghost use Rattle.std.specs.Prelude.{◌≡◌, ◌≤◌, ◌^◌, ◌∷◌, [], OnOk, IfOk};
 ghost use Rattle.raft_model.specs.declared.note.Note.TheVariants as kinds_of_notes;
-ghost use Rattle.log_view.specs.Log.{last};
-ghost use Rattle.roster.specs.Roster.{at};
-ghost use Rattle.raft_model.specs.Replica.{in_term, is_candidate};
+ghost use Rattle.raft_model.specs.Replica.{in_term};
 ghost use Rattle.raft_model.specs.Step.{on_body, row};
-ghost use Rattle.raft_core.specs.Range.{InRange, BodyWithin, IsWithin};
+ghost use Rattle.raft_core.specs.Range.{InRange, BodyWithin, IsWithin, IsSeat};
 
 use crate::appending::{append_reply_row, append_row};
 use crate::notes::{dropped_note, idle_note, leader_note};
@@ -18,24 +16,8 @@ use host_ids::{Key, NoMemory};
 use raft_model::{Chunk, Input, Note, State};
 use wire_codec::Body;
 
-/// What holds of a replica in range, fact by fact.
-#[tactic(auto, using(crate::proofs::Logs::at_short))]
-pub(crate) fn ranges(r: &State, from: u8)
-    requires { InRange r.now }
-    ensures front { r.now.log.front ≤ r.now.commit }
-    ensures committed { r.now.commit ≤ last r.now.log }
-    ensures room { last r.now.log + 1 < 2 ^ 64 }
-    ensures behind { r.now.log.front < r.now.from }
-    ensures changed { r.now.from ≤ last r.now.log + 1 }
-    ensures batches { r.now.batches ≤ 2 ^ 62 }
-    ensures may_lead { is_candidate r.now ≡ true → last r.now.log + 1 < 2 ^ 64 }
-    ensures matched { at r.now.matched from + 1 < 2 ^ 64 }
-    ensures hand { length r.now.assembly + 1 < 2 ^ 32 }
-    ensures count { IfSome r.now.inbox (λ b. b.count + 1 < 2 ^ 32) }
-{}
-
 /// An envelope's term is taken over.
-#[tactic(auto, using(crate::proofs::Kept::in_term_kept))]
+#[tactic(auto, using(crate::proofs::Steps::in_term_kept))]
 fn enter(r: &mut State, term: u64)
     requires short { term ≤ 2 ^ 62 }
     requires range { InRange r.old }
@@ -69,7 +51,6 @@ fn body_row(
         }
         Body::VoteReply { granted } => {
             enter(r, term);
-            ranges(r, from);
             let now = r.term;
             let led = vote_reply_row(seat, r, from, term, granted)?;
             leader_note(seat, now, led)
@@ -81,13 +62,11 @@ fn body_row(
             entries,
         } => {
             enter(r, term);
-            ranges(r, from);
             append_row(seat, r, from, term, prev, prev_term, commit, entries)?;
             Ok(Vec::new(seat.alloc()))
         }
         Body::AppendReply { ok, index } => {
             enter(r, term);
-            ranges(r, from);
             append_reply_row(seat, r, from, term, ok, index)?;
             Ok(Vec::new(seat.alloc()))
         }
@@ -109,7 +88,6 @@ fn body_row(
             bytes,
         } => {
             enter(r, term);
-            ranges(r, from);
             let chunk = Chunk {
                 term,
                 index,
@@ -124,7 +102,6 @@ fn body_row(
         }
         Body::SnapReply { index, whole, .. } => {
             enter(r, term);
-            ranges(r, from);
             snap_reply_row(seat, r, from, term, index, whole)?;
             Ok(Vec::new(seat.alloc()))
         }
@@ -157,8 +134,9 @@ pub(crate) fn row_of(seat: &Seat, r: &mut State, input: Input) -> Result<Vec<Not
     requires range { InRange r.old }
     ensures replica { OnOk result (r.new ≡ (row seat.now input r.old).replica) }
     ensures notes { IfOk result (λ notes. notes.items ≡ (row seat.now input r.old).notes) }
+    ensures host { IsSeat seat.now }
 {
-    ranges(r, 0);
+    let alloc = seat.alloc();
     match input {
         Input::Timeout => {
             let idle = timeout_row(seat, r)?;
@@ -178,15 +156,15 @@ pub(crate) fn row_of(seat: &Seat, r: &mut State, input: Input) -> Result<Vec<Not
         Input::Ask { key } => ask_row(seat, r, key),
         Input::Chunk { to, chunk } => {
             send_chunk(seat, r, to, chunk)?;
-            Ok(Vec::new(seat.alloc()))
+            Ok(Vec::new(alloc))
         }
         Input::Compact { index } => {
             compact_row(r, index);
-            Ok(Vec::new(seat.alloc()))
+            Ok(Vec::new(alloc))
         }
         Input::Installed { index, term } => {
             installed_row(seat, r, index, term)?;
-            Ok(Vec::new(seat.alloc()))
+            Ok(Vec::new(alloc))
         }
     }
 }

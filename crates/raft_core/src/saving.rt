@@ -10,14 +10,13 @@ use crate::appending::commit_by_rule;
 use crate::seat::Seat;
 use crate::sending::{is_candidate_role, is_changed_now, is_leader_role, is_waiting};
 use crate::voting::count_grant;
-use host_ids::{Batch, Entry, NoMemory, Proposal};
+use host_ids::{Batch, Entry, MOST_COMMAND, NoMemory, Proposal};
 use raft_model::{Pending, State, Taken};
-use wire_codec::MOST_COMMAND;
 
-/// A batch whose entries have so many bytes or more isn't taken.
+/// A batch whose entries have this number of bytes or more isn't taken.
 const MOST_BATCH: u64 = 1 << 31;
 
-/// So many entries of 51 bytes and a command of at most 512 have fewer bytes than that.
+/// This number of entries, each of 51 bytes and a command of at most 512, has fewer bytes than that.
 const SURELY_FEW: usize = 3_800_000;
 
 /// The number of the batch after this one.
@@ -40,7 +39,7 @@ fn payload_len(proposal: &Proposal) -> usize
     }
 }
 
-/// Whether these entries have so many bytes together.
+/// Whether these entries have at least `most` bytes together.
 fn have_bytes(entries: &[Entry], most: u64) -> bool
     ensures { result ≡ nat_le most (bytes_of entries.now) }
 {
@@ -122,18 +121,18 @@ pub(crate) fn ready_row(r: &mut State) -> Result<Option<Batch>, NoMemory>
 
 /// What Saved needs of a batch: its term, its vote and its last index.
 #[derive(Clone, Copy, Debug)]
-pub(crate) struct Mark {
+pub(crate) struct BatchMark {
     pub(crate) term: u64,
     pub(crate) vote: u8,
     pub(crate) end: u64,
 }
 
-pub(crate) fn mark_of(batch: &Batch) -> Mark
+pub(crate) fn mark_of(batch: &Batch) -> BatchMark
     requires some { 0 < batch.now.first }
     requires room { batch.now.first + length batch.now.entries < 2 ^ 64 }
     ensures { result ≡ mark_by batch.now }
 {
-    Mark {
+    BatchMark {
         term: batch.term,
         vote: batch.vote,
         end: batch.first + batch.entries.items().len() as u64 - 1,
@@ -141,14 +140,14 @@ pub(crate) fn mark_of(batch: &Batch) -> Mark
 }
 
 /// What is saved: up to the batch's last index, as far as the log is still as it was then.
-fn stabilise(r: &mut State, mark: Mark)
+fn stabilise(r: &mut State, mark: BatchMark)
     ensures { r.new ≡ stabilised_by mark r.old }
 {
     r.stable = r.log.front().max(mark.end.min(r.from.saturating_sub(1)));
 }
 
 /// The replica's own vote is counted where the batch saved it; whether it leads now.
-fn vote_own(seat: &Seat, r: &mut State, mark: Mark) -> Result<bool, NoMemory>
+fn vote_own(seat: &Seat, r: &mut State, mark: BatchMark) -> Result<bool, NoMemory>
     requires room { is_candidate r.old ≡ true → last r.old.log + 1 < 2 ^ 64 }
     ensures replica { OnOk result (r.new ≡ (own_vote_by mark seat.now r.old).replica) }
     ensures notes { IfOk result (λ led. led_notes seat.now r.old.term led ≡ (own_vote_by mark seat.now r.old).notes) }
@@ -174,7 +173,7 @@ fn match_own(seat: &Seat, r: &mut State)
 }
 
 /// A batch was saved, which is still pending; whether the replica leads now.
-pub(crate) fn saved_row(seat: &Seat, r: &mut State, mark: Mark) -> Result<bool, NoMemory>
+pub(crate) fn saved_row(seat: &Seat, r: &mut State, mark: BatchMark) -> Result<bool, NoMemory>
     requires room { is_candidate r.old ≡ true → last r.old.log + 1 < 2 ^ 64 }
     ensures replica { OnOk result (r.new ≡ own_match seat.now (own_vote_by mark seat.now (stabilised_by mark r.old)).replica) }
     ensures notes { IfOk result (λ led. led_notes seat.now r.old.term led ≡ (own_vote_by mark seat.now (stabilised_by mark r.old)).notes) }

@@ -1,5 +1,6 @@
 ghost use Rattle.std.specs.Prelude.{◌≡◌, ◌≤◌, length, IfOk};
 ghost use Rattle.std.specs.List.{All};
+ghost use Rattle.raft_core.specs.Range.{IsSeat};
 
 use host_ids::NoMemory;
 use std::alloc::Global;
@@ -38,7 +39,10 @@ impl Seat {
         Ok(Seat { group, me, voters })
     }
 
-    pub(crate) fn alloc(&self) -> Global {
+    /// Its allocator. The host of a seat is one (`host`).
+    pub(crate) fn alloc(&self) -> Global
+        ensures host { IsSeat self.now }
+    {
         *self.voters.allocator()
     }
 

@@ -112,7 +112,7 @@ fn has_place(log: &Log, index: u64, term: u64) -> bool
 
 /// The log begins after a snapshot.
 fn base(r: &mut State, index: u64, term: u64)
-    requires behind { r.old.log.front ≤ index }
+    requires beyond { r.old.log.front ≤ index }
     requires room { index + 1 < 2 ^ 64 }
     ensures based { r.new ≡ based index term r.old }
     ensures inbox { r.new.inbox ≡ r.old.inbox }

@@ -13,7 +13,7 @@ use raft_vote::{Election, campaign, on_vote, on_vote_reply};
 use read_index::Reads;
 use wire_codec::Body;
 
-/// What of the replica its votes hang on.
+/// What of the replica its votes depend on.
 fn election_of(r: &State) -> Election
     ensures { result ≡ election r.now }
 {

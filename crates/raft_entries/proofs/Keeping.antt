@@ -15,7 +15,7 @@ use Rattle.roster.specs.Roster.{Seat}
 use Rattle.log_view.specs.Log.{Log, Laid, is_kept, laid, append_after}
 use Rattle.raft_model.specs.Restarting.{restarted}
 use Rattle.raft_model.specs.Group.{continued, merged}
-use Rattle.raft_model.specs.Saving.{may_give, gave_batch, saved_batch}
+use Rattle.raft_model.specs.Saving.{may_give, gave_batch, stabilised, saved_batch}
 use Rattle.raft_model.specs.Step.{step, after_ready, saved}
 use Rattle.raft_entries.specs.Mail.{Property}
 use Rattle.raft_entries.specs.Parts.{Parts, parts}
@@ -28,7 +28,7 @@ use Rattle.raft_entries.proofs.Groups.Events.{stays_by}
 
 module _ (P : Property) where
   -- where a log's entries have it and those that are laid into it, the log's entries have it then
-  laid_of : (l : Log) (commit prev : ℕ) (es : List Entry) → All (OfEntry P) l.entries → All (OfEntry P) es → All (OfEntry P) (laid l commit prev es).log.entries
+  pub laid_of : (l : Log) (commit prev : ℕ) (es : List Entry) → All (OfEntry P) l.entries → All (OfEntry P) es → All (OfEntry P) (laid l commit prev es).log.entries
   laid_of l commit prev [] k of = k
   laid_of l commit prev (e ∷ es) k of =
       let after : Laid = record { log = append_after l prev (e ∷ es); changed_from = Some (prev + 1) } in
@@ -41,27 +41,37 @@ module _ (P : Property) where
   cut_of x n k = All-drop (OfEntry P) n x.log.entries k.0
 
   -- each word of the rows keeps it
-  words_of : Words P (λ t prev es. All (OfEntry P) es) (OfParts P)
-  words_of = record {
+  words_of : (s : Seat) → Words P (λ t prev es. All (OfEntry P) es) ⊥ (OfMail P) s (OfParts P)
+  words_of s = record {
+    carries = λ m mail. mail;
+    bounds = λ m mail l. absurd l;
+    writes = λ to t body carried bounded. carried;
+    reaches = λ t prev es of l. absurd l;
+    limits = λ x k l. absurd l;
     stretch = λ x next e k. All-take (OfEntry P) 64 (drop (next - x.log.front - 1) x.log.entries) (cut_of x (next - x.log.front - 1) k);
     holds = λ x m mail k. (k.0, All-push (OfMail P) x.held m k.1 mail, k.2);
     mailed = λ x k. k.1;
     empties = λ x k. (k.0, All-nil (OfMail P), k.2);
-    enters = λ x t less k. k;
-    stands = λ x k. k;
+    enters = λ x t less short k. k;
+    stands = λ x low short k. k;
     follows = λ x k. k;
     leads = λ x stood k. k;
+    rounds = λ x low k. k;
+    hears = λ x v i short k. k;
+    matches = λ x k. k;
     commits = λ x c more within k. k;
-    pushes = λ x key p led own k. (All-push (OfEntry P) x.log.entries (next_entry key p x) k.0 own, k.1, k.2);
-    lays = λ x t prev pt c es new has carried k. (laid_of x.log x.commit prev es k.0 carried, k.1, k.2);
+    pushes = λ x key p led room own k. (All-push (OfEntry P) x.log.entries (next_entry key p x) k.0 own, k.1, k.2);
+    lays = λ x t prev pt c es stood new has carried k. (laid_of x.log x.commit prev es k.0 carried, k.1, k.2);
+    takes = λ x c piece k. k;
+    receives = λ x b short k. k;
     cuts = λ x i above within k. (cut_of x (i - x.log.front) k, k.1, k.2);
-    bases = λ x i t above has k. (cut_of x (i - x.log.front) k, k.1, k.2);
-    resets = λ x i t above k. (All-nil (OfEntry P), k.1, k.2);
+    bases = λ x i t stood above has k. (cut_of x (i - x.log.front) k, k.1, k.2);
+    resets = λ x i t stood above short k. (All-nil (OfEntry P), k.1, k.2);
   }
 
   -- a replica keeps it with each input
   step_keeps : (s : Seat) (input : Input) (r : Replica) → OfBlank P → OfInput P input → OfReplica P r → OfStep P (step s input r)
-  step_keeps s input r blank of k = step_by words_of blank s input r of k
+  step_keeps s input r blank of k = step_by (words_of s) blank input r of (λ l. absurd l) k
 
   -- a batch is taken from the log, and the held envelopes wait for it
   given_keeps : (r : Replica) → OfReplica P r → OfReplica P (gave_batch r)
@@ -73,7 +83,7 @@ module _ (P : Property) where
 
   -- a replica keeps it with Saved, where the batch's envelopes go on the wire
   save_keeps : (s : Seat) (p : Pending) (r : Replica) → OfBlank P → OfPending P p → OfReplica P r → OfStep P (saved s p r)
-  save_keeps s p r blank of k = let q = saves_by words_of blank s p.batch r k in released_by words_of blank p.envelopes (saved_batch s p.batch r) of.1 (q.0, q.1, tt)
+  save_keeps s p r blank of k = let q = saves_by (words_of s) blank p.batch.term p.batch.vote (stabilised p.batch r) k in released_by (words_of s) blank p.envelopes (saved_batch s p.batch r) of.1 (q.0, q.1, tt)
 
   -- a decided list that has it goes on by a log that has it
   continued_of : (d : List Entry) (r : Replica) → All (OfEntry P) d → OfReplica P r → All (OfEntry P) (continued d r)

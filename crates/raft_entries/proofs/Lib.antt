@@ -1,5 +1,5 @@
 -- The rows of the step table in words, the events of a group by the steps of its hosts, and the two laws: all entries and proposals keep what they have, and entries are numbered.
-mod Rows
+pub mod Rows
 mod Groups
-mod Keeping
+pub mod Keeping
 mod Numbering

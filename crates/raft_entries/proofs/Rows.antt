@@ -1,5 +1,6 @@
 -- The rows of the step table, told in a few words that each change a replica's parts: what every word keeps, every row and every step keeps.
 pub mod Words
+pub mod Laying
 pub mod Sending
 pub mod Elections
 pub mod Proposals

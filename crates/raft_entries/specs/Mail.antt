@@ -5,7 +5,7 @@ use Rattle.host_ids.specs.declared.entry.Key.{Key}
 use Rattle.host_ids.specs.declared.proposal.Proposal.{Proposal}
 use Rattle.wire_codec.specs.declared.envelope.Envelope.{Envelope}
 use Rattle.wire_codec.specs.declared.envelope.Body.{Body}
-use Rattle.wire_codec.specs.declared.envelope.Body.TheVariants as kinds
+use Rattle.wire_codec.specs.declared.envelope.Body.TheVariants as bodies
 
 -- what a proposal may have, with the key of its request
 abbrev pub Property : Type 1
@@ -17,17 +17,17 @@ Following = ℕ → ℕ → List Entry → Type 0
 
 -- a body in its term has what is demanded: of the entries of an Append, after the index that they follow, and of the proposal of a Propose
 abbrev pub Carries : Property → Following → ℕ → Body → Type 0
-Carries Own Follows t (kinds.Vote l lt) = ⊤
-Carries Own Follows t (kinds.VoteReply granted) = ⊤
-Carries Own Follows t (kinds.Append prev pt c es) = Follows t prev es
-Carries Own Follows t (kinds.AppendReply ok i) = ⊤
-Carries Own Follows t (kinds.Beat c round) = ⊤
-Carries Own Follows t (kinds.BeatReply round) = ⊤
-Carries Own Follows t (kinds.SnapChunk index last_term number count size bytes) = ⊤
-Carries Own Follows t (kinds.SnapReply i want whole) = ⊤
-Carries Own Follows t (kinds.Propose key p) = Own key p
-Carries Own Follows t (kinds.ReadAsk key) = ⊤
-Carries Own Follows t (kinds.ReadAnswer key i) = ⊤
+Carries Own Follows t (bodies.Vote l lt) = ⊤
+Carries Own Follows t (bodies.VoteReply granted) = ⊤
+Carries Own Follows t (bodies.Append prev pt c es) = Follows t prev es
+Carries Own Follows t (bodies.AppendReply ok i) = ⊤
+Carries Own Follows t (bodies.Beat c round) = ⊤
+Carries Own Follows t (bodies.BeatReply round) = ⊤
+Carries Own Follows t (bodies.SnapChunk index last_term number count size bytes) = ⊤
+Carries Own Follows t (bodies.SnapReply i want whole) = ⊤
+Carries Own Follows t (bodies.Propose key p) = Own key p
+Carries Own Follows t (bodies.ReadAsk key) = ⊤
+Carries Own Follows t (bodies.ReadAnswer key i) = ⊤
 
 -- an envelope has it where its body has it in its term
 abbrev pub InMail : Property → Following → Envelope → Type 0

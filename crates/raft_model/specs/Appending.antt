@@ -1,7 +1,7 @@
 -- The rows of Append and AppendReply. Source: dissertation section 3.5; hints and what is passed over are this project's own.
 use Rattle.std.specs.Prelude.{ℕ, ◌+◌, ◌-◌, ◌==◌, ◌||◌, ◌&&◌, List, Bool, true, false, not, nat_lt, nat_le, min, max, length, Option, Some, None, slice_set, if◌then◌else◌}
 use Rattle.host_ids.specs.declared.entry.Entry.{Entry}
-use Rattle.wire_codec.specs.declared.envelope.Body.TheVariants as kinds
+use Rattle.wire_codec.specs.declared.envelope.Body.TheVariants as bodies
 use Rattle.raft_model.specs.declared.role.Role.TheVariants.{Follower}
 use Rattle.raft_model.specs.declared.progress.Appended.{Appended}
 use Rattle.raft_model.specs.declared.progress.Appended.TheVariants.{Refused, Stored}
@@ -39,9 +39,9 @@ changed (Some i) r = lowered i r
 
 -- | | then | commit = greater of commit and least of c and n; send AppendReply{1, n} |
 abbrev pub answers_append : Seat → ℕ → ℕ → Appended → Replica → Row
-answers_append s from c (Refused hint) r = quiet (sent s from (kinds.AppendReply false hint) r)
+answers_append s from c (Refused hint) r = quiet (sent s from (bodies.AppendReply false hint) r)
 answers_append s from c (Stored n changed_from) r =
-    let q = changed changed_from r in quiet (sent s from (kinds.AppendReply true n) (record q { commit = max q.commit (min c n) }))
+    let q = changed changed_from r in quiet (sent s from (bodies.AppendReply true n) (record q { commit = max q.commit (min c n) }))
 
 abbrev pub takes_append : Seat → ℕ → ℕ → ℕ → ℕ → List Entry → Replica → Row
 takes_append s from prev pt c es r = let took = takes r.log r.commit prev pt es in answers_append s from c took.outcome (record r { log = took.log })
@@ -54,7 +54,7 @@ follows from r = record r { role = Follower; leader = from }
 -- | Append{prev, pt, c, es} | t = term, else | role Follower; leader = sender; then the next three rows |
 abbrev pub on_append : Seat → ℕ → ℕ → ℕ → ℕ → ℕ → List Entry → Replica → Row
 on_append s from t prev pt c es r =
-    if nat_lt t r.term then quiet (sent s from (kinds.AppendReply false 0) r)
+    if nat_lt t r.term then quiet (sent s from (bodies.AppendReply false 0) r)
     else (if is_leader r then quiet r else takes_append s from prev pt c es (follows from r))
 
 -- a voter that lacks entries is sent more

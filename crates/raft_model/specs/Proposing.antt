@@ -2,7 +2,7 @@
 use Rattle.std.specs.Prelude.{◌==◌, ◌&&◌, not, if◌then◌else◌}
 use Rattle.host_ids.specs.declared.entry.Key.{Key}
 use Rattle.host_ids.specs.declared.proposal.Proposal.{Proposal}
-use Rattle.wire_codec.specs.declared.envelope.Body.TheVariants as kinds
+use Rattle.wire_codec.specs.declared.envelope.Body.TheVariants as bodies
 use Rattle.roster.specs.Roster.{Seat}
 use Rattle.raft_model.specs.declared.state.State.{State as Replica}
 use Rattle.raft_model.specs.Replica.{Row, quiet, notes_dropped, is_leader, is_full, sent_in, appended_to_all}
@@ -20,4 +20,4 @@ on_local_proposal s key p r =
     if is_full r then notes_dropped key r
     else (if is_leader r then quiet (appended_to_all s key p r)
     else (if r.leader == 0 then notes_dropped key r
-    else quiet (sent_in 0 s r.leader (kinds.Propose key p) r)))
+    else quiet (sent_in 0 s r.leader (bodies.Propose key p) r)))

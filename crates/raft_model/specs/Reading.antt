@@ -1,7 +1,7 @@
 -- The rows of Beat, BeatReply, ReadAsk and ReadAnswer, of the script's beat and of the local read. Source: dissertation section 6.4; the round 0 for a beat of a smaller term is this project's own: rounds begin at 1, so it confirms nothing.
 use Rattle.std.specs.Prelude.{ℕ, ◌==◌, ◌||◌, ◌&&◌, List, [], ◌∷◌, ◌++◌, Bool, not, nat_lt, min, max, if◌then◌else◌}
 use Rattle.host_ids.specs.declared.entry.Key.{Key}
-use Rattle.wire_codec.specs.declared.envelope.Body.TheVariants as kinds
+use Rattle.wire_codec.specs.declared.envelope.Body.TheVariants as bodies
 use Rattle.read_index.specs.declared.reads.OpenRead.{OpenRead}
 use Rattle.read_index.specs.Reads as index
 use Rattle.raft_model.specs.declared.note.Note.TheVariants as notes
@@ -16,9 +16,9 @@ use Rattle.raft_model.specs.Appending.{follows, more_to}
 -- | Beat{c, r} | t = term, else | role Follower; leader = sender; commit = greater of commit and least of c and last; send BeatReply{r} |
 abbrev pub on_beat : Seat → ℕ → ℕ → ℕ → ℕ → Replica → Row
 on_beat s from t c round r =
-    if nat_lt t r.term then quiet (sent s from (kinds.BeatReply 0) r)
+    if nat_lt t r.term then quiet (sent s from (bodies.BeatReply 0) r)
     else (if is_leader r then quiet r
-    else quiet (sent s from (kinds.BeatReply round) (record (follows from r) { commit = max r.commit (min c (last r.log)) })))
+    else quiet (sent s from (bodies.BeatReply round) (record (follows from r) { commit = max r.commit (min c (last r.log)) })))
 
 -- a majority, this replica among it, has answered the read's round
 abbrev pub is_answered : Seat → Replica → OpenRead → Bool
@@ -32,7 +32,7 @@ waits_on read r = record r { reads = record r.reads { waiting = r.reads.waiting 
 abbrev pub confirmed : Seat → OpenRead → Row → Row
 confirmed s read w =
     if read.origin == s.me then record w { notes = w.notes ++ notes.Confirmed s.me read.key read.index ∷ [] }
-    else record w { replica = sent_in 0 s read.origin (kinds.ReadAnswer read.key read.index) w.replica }
+    else record w { replica = sent_in 0 s read.origin (bodies.ReadAnswer read.key read.index) w.replica }
 
 -- the open reads in order: those that are answered are confirmed, the others stay open
 abbrev pub confirm : Seat → List OpenRead → Row → Row
@@ -58,7 +58,7 @@ on_beat_reply s from t round r =
 
 -- each other voter is sent what it has matched of the commit index, and the round
 abbrev pub beats : Seat → Replica → Replica
-beats s r = each_other s.me (λ v q. sent s v (kinds.Beat (min (at q.matched v) q.commit) q.reads.round) q) s.voters r
+beats s r = each_other s.me (λ v q. sent s v (bodies.Beat (min (at q.matched v) q.commit) q.reads.round) q) s.voters r
 
 abbrev pub next_round : Replica → Replica
 next_round r = record r { reads = index.next_round r.reads }
@@ -97,4 +97,4 @@ on_ask s key r =
     if is_full r then notes_dropped key r
     else (if is_leader r then (if may_read r then open_read s key s.me r else notes_dropped key r)
     else (if r.leader == 0 then notes_dropped key r
-    else quiet (sent_in 0 s r.leader (kinds.ReadAsk key) r)))
+    else quiet (sent_in 0 s r.leader (bodies.ReadAsk key) r)))

@@ -5,7 +5,7 @@ use Rattle.host_ids.specs.declared.entry.Key.{Key}
 use Rattle.host_ids.specs.declared.proposal.Proposal.{Proposal}
 use Rattle.host_ids.specs.declared.proposal.Proposal.TheVariants as proposals
 use Rattle.wire_codec.specs.declared.envelope.Body.{Body}
-use Rattle.wire_codec.specs.declared.envelope.Body.TheVariants as kinds
+use Rattle.wire_codec.specs.declared.envelope.Body.TheVariants as bodies
 use Rattle.raft_model.specs.declared.role.Role.TheVariants.{Follower, Candidate, Leader}
 use Rattle.raft_model.specs.declared.state.State.{State as Replica}
 use Rattle.raft_model.specs.declared.note.Note.{Note}
@@ -91,7 +91,7 @@ may_release r = not (is_pending r) && not (is_changed r)
 abbrev pub append_to : Seat → ℕ → Replica → Replica
 append_to s v r =
     if nat_lt r.log.front (at r.next v) && nat_le (at r.next v) (last r.log + 1)
-    then sent s v (kinds.Append (at r.next v - 1) (term_at r.log (at r.next v - 1)) r.commit (slice r.log (at r.next v) 64)) r
+    then sent s v (bodies.Append (at r.next v - 1) (term_at r.log (at r.next v - 1)) r.commit (slice r.log (at r.next v) 64)) r
     else r
 
 -- the greatest of the n numbers above low that passes, or low

@@ -2,7 +2,7 @@
 use Rattle.std.specs.Prelude.{ℕ, ◌+◌, ◌==◌, ◌&&◌, List, [], ◌∷◌, ◌++◌, Bool, true, false, not, nat_lt, nat_le, max, length, Option, Some, None, if◌then◌else◌}
 use Rattle.std.specs.List.{flat_map}
 use Rattle.raft_model.specs.declared.chunk.Chunk.{Chunk}
-use Rattle.wire_codec.specs.declared.envelope.Body.TheVariants as kinds
+use Rattle.wire_codec.specs.declared.envelope.Body.TheVariants as bodies
 use Rattle.roster.specs.Roster.{Seat}
 use Rattle.log_view.specs.Log.{Log, last, term_at, cut_front, reset}
 use Rattle.raft_model.specs.declared.state.State.{State as Replica}
@@ -47,7 +47,7 @@ taken hand c =
 abbrev pub after_take : Seat → ℕ → Chunk → Took → Replica → Replica
 after_take s from c w r =
     elim w.whole as (λ _. Replica) [
-      | None ↦ sent s from (kinds.SnapReply c.index w.want false) (record r { assembly = w.hand })
+      | None ↦ sent s from (bodies.SnapReply c.index w.want false) (record r { assembly = w.hand })
       | Some bytes ↦ record r { assembly = w.hand; inbox = Some (record { received = record { index = c.index; term = c.last_term; bytes = bytes }; sender = from; count = c.count }) }
     ]
 
@@ -56,9 +56,9 @@ after_take s from c w r =
 -- | SnapChunk | t = term, else | role Follower; leader = sender; where index <= commit: send SnapReply{index, count + 1, 1}; else the assembly takes it: More and NotNext send SnapReply{index, want, 0}; Whole puts the bytes into the inbox |
 abbrev pub on_chunk : Seat → ℕ → Chunk → Replica → Row
 on_chunk s from c r =
-    if nat_lt c.term r.term then quiet (sent s from (kinds.SnapReply c.index 0 false) r)
+    if nat_lt c.term r.term then quiet (sent s from (bodies.SnapReply c.index 0 false) r)
     else (if is_leader r then quiet r
-    else (if nat_le c.index r.commit then quiet (sent s from (kinds.SnapReply c.index (c.count + 1) true) (follows from r))
+    else (if nat_le c.index r.commit then quiet (sent s from (bodies.SnapReply c.index (c.count + 1) true) (follows from r))
     else quiet (after_take s from c (taken r.assembly c) (follows from r))))
 
 -- | SnapReply{i, w, 1} | t = term, Leader | matched = greater of matched and i; next = greater of next and i + 1; where matched < last: AppendTo(sender) |
@@ -68,7 +68,7 @@ on_snap_reply s from t i whole r = if whole && (t == r.term) && is_leader r then
 
 -- a chunk is sent with the term in which its stream was opened
 abbrev pub sends_chunk : Seat → ℕ → Chunk → Replica → Row
-sends_chunk s to c r = quiet (sent_in c.term s to (kinds.SnapChunk c.index c.last_term c.number c.count c.size c.bytes) r)
+sends_chunk s to c r = quiet (sent_in c.term s to (bodies.SnapChunk c.index c.last_term c.number c.count c.size c.bytes) r)
 
 -- | Compact{i} | i at most ripe | front becomes the greater of front and i, with its term; entries up to it go |
 abbrev pub compacted : ℕ → Replica → Row
@@ -86,7 +86,7 @@ based i t r =
 
 -- the sender of the snapshot hears that it is there
 abbrev pub replied : Seat → ℕ → Option Inbox → Replica → Replica
-replied s i inbox r = elim inbox as (λ _. Replica) [ None ↦ r | Some b ↦ sent s b.sender (kinds.SnapReply i (b.count + 1) true) r ]
+replied s i inbox r = elim inbox as (λ _. Replica) [ None ↦ r | Some b ↦ sent s b.sender (bodies.SnapReply i (b.count + 1) true) r ]
 
 -- | Installed{i, t} | Follower, i > commit | where i <= last and term_at(i) = t the entries after i stay, else none; front is i, t; commit = i; stable = greater of stable and i where entries stayed, else i; from = greater of from and i + 1 where they stayed, else i + 1; send SnapReply{i, count + 1, 1} to the sender of the snapshot |
 abbrev pub installed : Seat → ℕ → ℕ → Replica → Row

@@ -2,7 +2,7 @@
 use Rattle.std.specs.Prelude.{ℕ, List, [], ◌++◌, Option, Some, None, if◌then◌else◌}
 use Rattle.wire_codec.specs.declared.envelope.Envelope.{Envelope}
 use Rattle.wire_codec.specs.declared.envelope.Body.{Body}
-use Rattle.wire_codec.specs.declared.envelope.Body.TheVariants as kinds
+use Rattle.wire_codec.specs.declared.envelope.Body.TheVariants as bodies
 use Rattle.host_ids.specs.declared.batch.Batch.{Batch}
 use Rattle.raft_model.specs.declared.input.Input.{Input}
 use Rattle.raft_model.specs.declared.input.Input.TheVariants as inputs
@@ -26,18 +26,18 @@ pub record Step : Type 0 where
 
 -- an envelope by its kind: those of a term first meet the rule on greater terms
 abbrev pub on_body : Seat → ℕ → ℕ → Body → Replica → Row
-on_body s from t (kinds.Vote l lt) r = on_vote s from t l lt (in_term t r)
-on_body s from t (kinds.VoteReply granted) r = on_vote_reply s from t granted (in_term t r)
-on_body s from t (kinds.Append prev pt c es) r = on_append s from t prev pt c es (in_term t r)
-on_body s from t (kinds.AppendReply ok i) r = on_append_reply s from t ok i (in_term t r)
-on_body s from t (kinds.Beat c round) r = on_beat s from t c round (in_term t r)
-on_body s from t (kinds.BeatReply round) r = on_beat_reply s from t round (in_term t r)
-on_body s from t (kinds.SnapChunk index last_term number count size bytes) r =
+on_body s from t (bodies.Vote l lt) r = on_vote s from t l lt (in_term t r)
+on_body s from t (bodies.VoteReply granted) r = on_vote_reply s from t granted (in_term t r)
+on_body s from t (bodies.Append prev pt c es) r = on_append s from t prev pt c es (in_term t r)
+on_body s from t (bodies.AppendReply ok i) r = on_append_reply s from t ok i (in_term t r)
+on_body s from t (bodies.Beat c round) r = on_beat s from t c round (in_term t r)
+on_body s from t (bodies.BeatReply round) r = on_beat_reply s from t round (in_term t r)
+on_body s from t (bodies.SnapChunk index last_term number count size bytes) r =
     on_chunk s from (record { term = t; index = index; last_term = last_term; number = number; count = count; size = size; bytes = bytes }) (in_term t r)
-on_body s from t (kinds.SnapReply i want whole) r = on_snap_reply s from t i whole (in_term t r)
-on_body s from t (kinds.Propose key p) r = on_propose s key p r
-on_body s from t (kinds.ReadAsk key) r = on_read_ask s from key r
-on_body s from t (kinds.ReadAnswer key i) r = on_read_answer s key i r
+on_body s from t (bodies.SnapReply i want whole) r = on_snap_reply s from t i whole (in_term t r)
+on_body s from t (bodies.Propose key p) r = on_propose s key p r
+on_body s from t (bodies.ReadAsk key) r = on_read_ask s from key r
+on_body s from t (bodies.ReadAnswer key i) r = on_read_answer s key i r
 
 unfoldable pub row : Seat → Input → Replica → Row
 row s inputs.Timeout r = on_timeout s r

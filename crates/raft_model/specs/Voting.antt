@@ -1,6 +1,6 @@
 -- The rows of Timeout, Vote and VoteReply. Source: dissertation sections 3.4 and 3.6.
 use Rattle.std.specs.Prelude.{ℕ, ◌+◌, ◌==◌, ◌||◌, ◌&&◌, List, Bool, true, not, nat_lt, nat_le, slice_set, if◌then◌else◌}
-use Rattle.wire_codec.specs.declared.envelope.Body.TheVariants as kinds
+use Rattle.wire_codec.specs.declared.envelope.Body.TheVariants as bodies
 use Rattle.raft_model.specs.declared.election.Election.{Election}
 use Rattle.raft_model.specs.declared.role.Role.TheVariants.{Candidate}
 use Rattle.roster.specs.Roster.{Seat, is_set, none_set, is_majority}
@@ -8,7 +8,7 @@ use Rattle.log_view.specs.Log.{last, last_term}
 use Rattle.raft_model.specs.declared.state.State.{State as Replica}
 use Rattle.raft_model.specs.Replica.{Row, quiet, notes_idle, is_leader, is_candidate, is_full, sent, each_other, lead}
 
--- what of a replica its votes hang on: the end of its log among it
+-- what of a replica its votes depend on: the end of its log among it
 abbrev pub election : Replica → Election
 election r = record { term = r.term; vote = r.vote; last = last r.log; last_term = last_term r.log; granted = r.granted; candidate = is_candidate r }
 
@@ -20,7 +20,7 @@ abbrev pub campaigned : Seat → Replica → Replica
 campaigned s r = let e = stands s.me (election r) in record r { term = e.term; vote = e.vote; role = Candidate; leader = 0; granted = e.granted }
 
 abbrev pub asked_votes : Seat → Replica → Replica
-asked_votes s r = each_other s.me (λ v q. sent s v (kinds.Vote (last q.log) (last_term q.log)) q) s.voters r
+asked_votes s r = each_other s.me (λ v q. sent s v (bodies.Vote (last q.log) (last_term q.log)) q) s.voters r
 
 -- | Timeout | Leader, or full | note Idle |
 abbrev pub on_timeout : Seat → Replica → Row
@@ -42,7 +42,7 @@ voted from granted e = if granted then record e { vote = from } else e
 abbrev pub on_vote : Seat → ℕ → ℕ → ℕ → ℕ → Replica → Row
 on_vote s from t l lt r =
     let granted = grants (election r) from t l lt in
-    quiet (sent s from (kinds.VoteReply granted) (record r { vote = (voted from granted (election r)).vote }))
+    quiet (sent s from (bodies.VoteReply granted) (record r { vote = (voted from granted (election r)).vote }))
 
 abbrev pub with_grant : ℕ → Election → Election
 with_grant from e = record e { granted = slice_set e.granted from true }

@@ -1,4 +1,4 @@
-/// What of a replica its votes hang on. Source: dissertation sections 3.4 and 3.6.
+/// What of a replica its votes depend on. Source: dissertation sections 3.4 and 3.6.
 #[derive(Clone, Copy, Debug, PartialEq, Eq)]
 pub struct Election {
     /// The replica's term.

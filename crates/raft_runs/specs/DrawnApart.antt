@@ -4,7 +4,7 @@ use Rattle.std.specs.Prelude.{List, [], ◌∷◌, codes, true, false}
 use Rattle.host_ids.specs.declared.entry.Entry.{Entry}
 use Rattle.host_ids.specs.declared.proposal.Proposal.TheVariants as proposals
 use Rattle.wire_codec.specs.declared.envelope.Envelope.{Envelope}
-use Rattle.wire_codec.specs.declared.envelope.Body.TheVariants as kinds
+use Rattle.wire_codec.specs.declared.envelope.Body.TheVariants as bodies
 use Rattle.raft_model.specs.declared.event.LaneEvent.{LaneEvent}
 use Rattle.raft_model.specs.declared.event.LaneEvent.TheVariants as events
 use Rattle.raft_model.specs.declared.note.Note.{Note}
@@ -173,98 +173,98 @@ replicas_of =
 -- what was sent
 abbrev pub wire_of : List Envelope
 wire_of =
-    post 2 5 1 (kinds.Vote 0 0) ∷ post 2 9 1 (kinds.Vote 0 0) ∷
-    post 5 2 1 (kinds.Vote 0 0) ∷ post 5 9 1 (kinds.Vote 0 0) ∷
-    post 5 2 1 (kinds.VoteReply false) ∷ post 5 2 1 (kinds.VoteReply false) ∷
-    post 9 2 1 (kinds.VoteReply true) ∷ post 9 5 1 (kinds.VoteReply false) ∷
-    post 2 5 1 (kinds.Append 0 0 0 (entry 1 1 no_key proposals.Blank ∷ [])) ∷ post 2 9 1 (kinds.Append 0 0 0 (entry 1 1 no_key proposals.Blank ∷ [])) ∷
-    post 2 5 1 (kinds.VoteReply false) ∷ post 9 5 1 (kinds.VoteReply false) ∷
-    post 2 5 1 (kinds.Append 0 0 0 (entry 1 1 no_key proposals.Blank ∷ entry 2 1 (key 2 1 4) (proposals.Plain (codes "put x 8")) ∷ [])) ∷ post 2 9 1 (kinds.Append 0 0 0 (entry 1 1 no_key proposals.Blank ∷ entry 2 1 (key 2 1 4) (proposals.Plain (codes "put x 8")) ∷ [])) ∷
-    post 9 2 2 (kinds.Vote 0 0) ∷ post 9 5 2 (kinds.Vote 0 0) ∷
-    post 2 5 1 (kinds.Append 0 0 0 (entry 1 1 no_key proposals.Blank ∷ entry 2 1 (key 2 1 4) (proposals.Plain (codes "put x 8")) ∷ entry 3 1 (key 2 1 5) (proposals.Plain (codes "put x 4")) ∷ [])) ∷ post 2 9 1 (kinds.Append 0 0 0 (entry 1 1 no_key proposals.Blank ∷ entry 2 1 (key 2 1 4) (proposals.Plain (codes "put x 8")) ∷ entry 3 1 (key 2 1 5) (proposals.Plain (codes "put x 4")) ∷ [])) ∷
-    post 2 5 1 (kinds.Append 0 0 0 (entry 1 1 no_key proposals.Blank ∷ entry 2 1 (key 2 1 4) (proposals.Plain (codes "put x 8")) ∷ entry 3 1 (key 2 1 5) (proposals.Plain (codes "put x 4")) ∷ entry 4 1 (key 2 1 6) (proposals.Plain (codes "put x 2")) ∷ [])) ∷ post 2 9 1 (kinds.Append 0 0 0 (entry 1 1 no_key proposals.Blank ∷ entry 2 1 (key 2 1 4) (proposals.Plain (codes "put x 8")) ∷ entry 3 1 (key 2 1 5) (proposals.Plain (codes "put x 4")) ∷ entry 4 1 (key 2 1 6) (proposals.Plain (codes "put x 2")) ∷ [])) ∷
-    post 5 2 1 (kinds.AppendReply true 1) ∷ post 5 9 2 (kinds.VoteReply false) ∷
-    post 5 2 2 (kinds.AppendReply false 0) ∷ post 5 2 2 (kinds.AppendReply false 0) ∷
-    post 5 2 2 (kinds.AppendReply false 0) ∷ post 9 2 3 (kinds.Vote 0 0) ∷
-    post 9 5 3 (kinds.Vote 0 0) ∷ post 9 2 3 (kinds.AppendReply false 0) ∷
-    post 9 2 3 (kinds.AppendReply false 0) ∷ post 2 5 1 (kinds.Append 0 0 0 (entry 1 1 no_key proposals.Blank ∷ entry 2 1 (key 2 1 4) (proposals.Plain (codes "put x 8")) ∷ entry 3 1 (key 2 1 5) (proposals.Plain (codes "put x 4")) ∷ entry 4 1 (key 2 1 6) (proposals.Plain (codes "put x 2")) ∷ entry 5 1 (key 2 1 7) (proposals.Plain (codes "put x 6")) ∷ [])) ∷
-    post 2 9 1 (kinds.Append 0 0 0 (entry 1 1 no_key proposals.Blank ∷ entry 2 1 (key 2 1 4) (proposals.Plain (codes "put x 8")) ∷ entry 3 1 (key 2 1 5) (proposals.Plain (codes "put x 4")) ∷ entry 4 1 (key 2 1 6) (proposals.Plain (codes "put x 2")) ∷ entry 5 1 (key 2 1 7) (proposals.Plain (codes "put x 6")) ∷ [])) ∷ post 2 5 1 (kinds.Beat 0 1) ∷
-    post 2 9 1 (kinds.Beat 0 1) ∷ post 2 5 1 (kinds.Append 0 0 0 (entry 1 1 no_key proposals.Blank ∷ entry 2 1 (key 2 1 4) (proposals.Plain (codes "put x 8")) ∷ entry 3 1 (key 2 1 5) (proposals.Plain (codes "put x 4")) ∷ entry 4 1 (key 2 1 6) (proposals.Plain (codes "put x 2")) ∷ entry 5 1 (key 2 1 7) (proposals.Plain (codes "put x 6")) ∷ entry 6 1 (key 2 1 8) (proposals.Plain (codes "put x 8")) ∷ [])) ∷
-    post 2 9 1 (kinds.Append 0 0 0 (entry 1 1 no_key proposals.Blank ∷ entry 2 1 (key 2 1 4) (proposals.Plain (codes "put x 8")) ∷ entry 3 1 (key 2 1 5) (proposals.Plain (codes "put x 4")) ∷ entry 4 1 (key 2 1 6) (proposals.Plain (codes "put x 2")) ∷ entry 5 1 (key 2 1 7) (proposals.Plain (codes "put x 6")) ∷ entry 6 1 (key 2 1 8) (proposals.Plain (codes "put x 8")) ∷ [])) ∷ post 9 2 3 (kinds.BeatReply 0) ∷
-    post 9 2 3 (kinds.AppendReply false 0) ∷ post 2 5 1 (kinds.Append 0 0 0 (entry 1 1 no_key proposals.Blank ∷ entry 2 1 (key 2 1 4) (proposals.Plain (codes "put x 8")) ∷ entry 3 1 (key 2 1 5) (proposals.Plain (codes "put x 4")) ∷ entry 4 1 (key 2 1 6) (proposals.Plain (codes "put x 2")) ∷ entry 5 1 (key 2 1 7) (proposals.Plain (codes "put x 6")) ∷ entry 6 1 (key 2 1 8) (proposals.Plain (codes "put x 8")) ∷ entry 7 1 (key 2 1 9) (proposals.Plain (codes "put x 5")) ∷ [])) ∷
-    post 2 9 1 (kinds.Append 0 0 0 (entry 1 1 no_key proposals.Blank ∷ entry 2 1 (key 2 1 4) (proposals.Plain (codes "put x 8")) ∷ entry 3 1 (key 2 1 5) (proposals.Plain (codes "put x 4")) ∷ entry 4 1 (key 2 1 6) (proposals.Plain (codes "put x 2")) ∷ entry 5 1 (key 2 1 7) (proposals.Plain (codes "put x 6")) ∷ entry 6 1 (key 2 1 8) (proposals.Plain (codes "put x 8")) ∷ entry 7 1 (key 2 1 9) (proposals.Plain (codes "put x 5")) ∷ [])) ∷ post 2 5 1 (kinds.Append 0 0 0 (entry 1 1 no_key proposals.Blank ∷ entry 2 1 (key 2 1 4) (proposals.Plain (codes "put x 8")) ∷ entry 3 1 (key 2 1 5) (proposals.Plain (codes "put x 4")) ∷ entry 4 1 (key 2 1 6) (proposals.Plain (codes "put x 2")) ∷ entry 5 1 (key 2 1 7) (proposals.Plain (codes "put x 6")) ∷ entry 6 1 (key 2 1 8) (proposals.Plain (codes "put x 8")) ∷ entry 7 1 (key 2 1 9) (proposals.Plain (codes "put x 5")) ∷ entry 8 1 (key 2 1 10) (proposals.Plain (codes "put x 1")) ∷ [])) ∷
-    post 2 9 1 (kinds.Append 0 0 0 (entry 1 1 no_key proposals.Blank ∷ entry 2 1 (key 2 1 4) (proposals.Plain (codes "put x 8")) ∷ entry 3 1 (key 2 1 5) (proposals.Plain (codes "put x 4")) ∷ entry 4 1 (key 2 1 6) (proposals.Plain (codes "put x 2")) ∷ entry 5 1 (key 2 1 7) (proposals.Plain (codes "put x 6")) ∷ entry 6 1 (key 2 1 8) (proposals.Plain (codes "put x 8")) ∷ entry 7 1 (key 2 1 9) (proposals.Plain (codes "put x 5")) ∷ entry 8 1 (key 2 1 10) (proposals.Plain (codes "put x 1")) ∷ [])) ∷ post 9 2 4 (kinds.Vote 0 0) ∷
-    post 9 5 4 (kinds.Vote 0 0) ∷ post 9 2 4 (kinds.VoteReply false) ∷
-    post 5 9 3 (kinds.VoteReply false) ∷ post 9 2 4 (kinds.AppendReply false 0) ∷
-    post 5 2 4 (kinds.Vote 1 1) ∷ post 5 9 4 (kinds.Vote 1 1) ∷
-    post 5 2 4 (kinds.AppendReply false 0) ∷ post 5 2 4 (kinds.AppendReply false 0) ∷
-    post 5 2 4 (kinds.AppendReply false 0) ∷ post 5 9 4 (kinds.VoteReply false) ∷
-    post 5 2 4 (kinds.AppendReply false 0) ∷ post 5 9 4 (kinds.VoteReply false) ∷
-    post 9 5 4 (kinds.VoteReply false) ∷ post 5 2 5 (kinds.Vote 1 1) ∷
-    post 5 9 5 (kinds.Vote 1 1) ∷ post 2 5 5 (kinds.VoteReply false) ∷
-    post 2 5 5 (kinds.VoteReply false) ∷ post 2 5 6 (kinds.Vote 8 1) ∷
-    post 2 9 6 (kinds.Vote 8 1) ∷ post 9 2 5 (kinds.Vote 0 0) ∷
-    post 9 5 5 (kinds.Vote 0 0) ∷ post 9 2 6 (kinds.VoteReply true) ∷
-    post 2 5 6 (kinds.VoteReply false) ∷ post 2 5 6 (kinds.Append 8 1 0 (entry 9 6 no_key proposals.Blank ∷ [])) ∷
-    post 2 9 6 (kinds.Append 8 1 0 (entry 9 6 no_key proposals.Blank ∷ [])) ∷ post 9 2 6 (kinds.VoteReply true) ∷
-    post 9 2 6 (kinds.AppendReply false 0) ∷ post 9 2 6 (kinds.VoteReply true) ∷
-    post 9 2 6 (kinds.AppendReply false 0) ∷ post 2 9 6 (kinds.Append 0 0 0 (entry 1 1 no_key proposals.Blank ∷ entry 2 1 (key 2 1 4) (proposals.Plain (codes "put x 8")) ∷ entry 3 1 (key 2 1 5) (proposals.Plain (codes "put x 4")) ∷ entry 4 1 (key 2 1 6) (proposals.Plain (codes "put x 2")) ∷ entry 5 1 (key 2 1 7) (proposals.Plain (codes "put x 6")) ∷ entry 6 1 (key 2 1 8) (proposals.Plain (codes "put x 8")) ∷ entry 7 1 (key 2 1 9) (proposals.Plain (codes "put x 5")) ∷ entry 8 1 (key 2 1 10) (proposals.Plain (codes "put x 1")) ∷ entry 9 6 no_key proposals.Blank ∷ [])) ∷
-    post 2 9 6 (kinds.Append 0 0 0 (entry 1 1 no_key proposals.Blank ∷ entry 2 1 (key 2 1 4) (proposals.Plain (codes "put x 8")) ∷ entry 3 1 (key 2 1 5) (proposals.Plain (codes "put x 4")) ∷ entry 4 1 (key 2 1 6) (proposals.Plain (codes "put x 2")) ∷ entry 5 1 (key 2 1 7) (proposals.Plain (codes "put x 6")) ∷ entry 6 1 (key 2 1 8) (proposals.Plain (codes "put x 8")) ∷ entry 7 1 (key 2 1 9) (proposals.Plain (codes "put x 5")) ∷ entry 8 1 (key 2 1 10) (proposals.Plain (codes "put x 1")) ∷ entry 9 6 no_key proposals.Blank ∷ [])) ∷ post 9 2 6 (kinds.AppendReply false 0) ∷
-    post 2 5 6 (kinds.Append 8 1 0 (entry 9 6 no_key proposals.Blank ∷ entry 10 6 (key 2 1 14) (proposals.Plain (codes "put x 5")) ∷ [])) ∷ post 2 9 6 (kinds.Append 0 0 0 (entry 1 1 no_key proposals.Blank ∷ entry 2 1 (key 2 1 4) (proposals.Plain (codes "put x 8")) ∷ entry 3 1 (key 2 1 5) (proposals.Plain (codes "put x 4")) ∷ entry 4 1 (key 2 1 6) (proposals.Plain (codes "put x 2")) ∷ entry 5 1 (key 2 1 7) (proposals.Plain (codes "put x 6")) ∷ entry 6 1 (key 2 1 8) (proposals.Plain (codes "put x 8")) ∷ entry 7 1 (key 2 1 9) (proposals.Plain (codes "put x 5")) ∷ entry 8 1 (key 2 1 10) (proposals.Plain (codes "put x 1")) ∷ entry 9 6 no_key proposals.Blank ∷ entry 10 6 (key 2 1 14) (proposals.Plain (codes "put x 5")) ∷ [])) ∷
-    post 9 2 6 (kinds.AppendReply true 9) ∷ post 9 2 6 (kinds.AppendReply true 9) ∷
-    post 2 5 6 (kinds.Beat 0 1) ∷ post 2 9 6 (kinds.Beat 0 1) ∷
-    post 9 2 6 (kinds.AppendReply true 9) ∷ post 2 9 6 (kinds.Append 9 6 9 (entry 10 6 (key 2 1 14) (proposals.Plain (codes "put x 5")) ∷ [])) ∷
-    post 2 9 6 (kinds.Append 9 6 9 (entry 10 6 (key 2 1 14) (proposals.Plain (codes "put x 5")) ∷ [])) ∷ post 9 2 6 (kinds.AppendReply true 10) ∷
-    post 9 2 6 (kinds.AppendReply true 10) ∷ post 9 2 6 (kinds.AppendReply true 9) ∷
-    post 9 2 6 (kinds.AppendReply true 10) ∷ post 9 2 6 (kinds.AppendReply true 10) ∷
-    post 2 5 6 (kinds.Append 8 1 9 (entry 9 6 no_key proposals.Blank ∷ entry 10 6 (key 2 1 14) (proposals.Plain (codes "put x 5")) ∷ entry 11 6 (key 2 1 15) (proposals.Plain (codes "put x 3")) ∷ [])) ∷ post 2 9 6 (kinds.Append 9 6 9 (entry 10 6 (key 2 1 14) (proposals.Plain (codes "put x 5")) ∷ entry 11 6 (key 2 1 15) (proposals.Plain (codes "put x 3")) ∷ [])) ∷
-    post 2 9 6 (kinds.Append 10 6 10 (entry 11 6 (key 2 1 15) (proposals.Plain (codes "put x 3")) ∷ [])) ∷ post 2 9 6 (kinds.Append 10 6 10 (entry 11 6 (key 2 1 15) (proposals.Plain (codes "put x 3")) ∷ [])) ∷
-    post 2 9 6 (kinds.Append 10 6 10 (entry 11 6 (key 2 1 15) (proposals.Plain (codes "put x 3")) ∷ [])) ∷ post 2 9 6 (kinds.Append 10 6 10 (entry 11 6 (key 2 1 15) (proposals.Plain (codes "put x 3")) ∷ [])) ∷
-    post 2 9 6 (kinds.Append 10 6 10 (entry 11 6 (key 2 1 15) (proposals.Plain (codes "put x 3")) ∷ [])) ∷ post 2 9 6 (kinds.Append 10 6 10 (entry 11 6 (key 2 1 15) (proposals.Plain (codes "put x 3")) ∷ [])) ∷
-    post 9 2 6 (kinds.AppendReply true 11) ∷ post 9 2 6 (kinds.AppendReply true 11) ∷
-    post 9 2 0 (kinds.ReadAsk (key 9 1 6)) ∷ post 9 2 6 (kinds.AppendReply true 11) ∷
-    post 9 2 6 (kinds.AppendReply true 11) ∷ post 2 5 6 (kinds.Append 8 1 10 (entry 9 6 no_key proposals.Blank ∷ entry 10 6 (key 2 1 14) (proposals.Plain (codes "put x 5")) ∷ entry 11 6 (key 2 1 15) (proposals.Plain (codes "put x 3")) ∷ entry 12 6 (key 2 1 16) (proposals.Plain (codes "put x 6")) ∷ [])) ∷
-    post 2 9 6 (kinds.Append 10 6 10 (entry 11 6 (key 2 1 15) (proposals.Plain (codes "put x 3")) ∷ entry 12 6 (key 2 1 16) (proposals.Plain (codes "put x 6")) ∷ [])) ∷ post 2 5 6 (kinds.Beat 0 2) ∷
-    post 2 9 6 (kinds.Beat 10 2) ∷ post 2 9 6 (kinds.Append 11 6 11 (entry 12 6 (key 2 1 16) (proposals.Plain (codes "put x 6")) ∷ [])) ∷
-    post 9 2 6 (kinds.BeatReply 2) ∷ post 9 2 6 (kinds.AppendReply true 12) ∷
-    post 5 2 6 (kinds.BeatReply 2) ∷ post 2 5 6 (kinds.Append 8 1 11 (entry 9 6 no_key proposals.Blank ∷ entry 10 6 (key 2 1 14) (proposals.Plain (codes "put x 5")) ∷ entry 11 6 (key 2 1 15) (proposals.Plain (codes "put x 3")) ∷ entry 12 6 (key 2 1 16) (proposals.Plain (codes "put x 6")) ∷ entry 13 6 (key 2 1 17) (proposals.Plain (codes "put x 7")) ∷ [])) ∷
-    post 2 9 6 (kinds.Append 11 6 11 (entry 12 6 (key 2 1 16) (proposals.Plain (codes "put x 6")) ∷ entry 13 6 (key 2 1 17) (proposals.Plain (codes "put x 7")) ∷ [])) ∷ post 2 9 6 (kinds.Append 11 6 11 (entry 12 6 (key 2 1 16) (proposals.Plain (codes "put x 6")) ∷ entry 13 6 (key 2 1 17) (proposals.Plain (codes "put x 7")) ∷ [])) ∷
-    post 2 5 6 (kinds.Beat 0 3) ∷ post 2 9 6 (kinds.Beat 11 3) ∷
-    post 2 9 6 (kinds.Append 11 6 11 (entry 12 6 (key 2 1 16) (proposals.Plain (codes "put x 6")) ∷ entry 13 6 (key 2 1 17) (proposals.Plain (codes "put x 7")) ∷ [])) ∷ post 2 9 6 (kinds.Append 11 6 11 (entry 12 6 (key 2 1 16) (proposals.Plain (codes "put x 6")) ∷ entry 13 6 (key 2 1 17) (proposals.Plain (codes "put x 7")) ∷ [])) ∷
-    post 9 2 6 (kinds.AppendReply true 12) ∷ post 9 2 6 (kinds.BeatReply 2) ∷
-    post 2 5 6 (kinds.Beat 0 4) ∷ post 2 9 6 (kinds.Beat 11 4) ∷
-    post 2 9 6 (kinds.Append 11 6 11 (entry 12 6 (key 2 1 16) (proposals.Plain (codes "put x 6")) ∷ entry 13 6 (key 2 1 17) (proposals.Plain (codes "put x 7")) ∷ [])) ∷ post 2 9 6 (kinds.Append 12 6 12 (entry 13 6 (key 2 1 17) (proposals.Plain (codes "put x 7")) ∷ [])) ∷
-    post 2 9 6 (kinds.Append 12 6 12 (entry 13 6 (key 2 1 17) (proposals.Plain (codes "put x 7")) ∷ [])) ∷ post 2 9 6 (kinds.Append 12 6 12 (entry 13 6 (key 2 1 17) (proposals.Plain (codes "put x 7")) ∷ [])) ∷
-    post 2 5 6 (kinds.Beat 0 5) ∷ post 2 9 6 (kinds.Beat 12 5) ∷
-    post 2 9 6 (kinds.Append 12 6 12 (entry 13 6 (key 2 1 17) (proposals.Plain (codes "put x 7")) ∷ [])) ∷ post 2 5 6 (kinds.Beat 0 6) ∷
-    post 2 9 6 (kinds.Beat 12 6) ∷ post 2 9 6 (kinds.SnapChunk 12 6 1 1 16 (1 ∷ 2 ∷ 3 ∷ [])) ∷
-    post 9 2 6 (kinds.AppendReply true 12) ∷ post 9 2 6 (kinds.AppendReply true 13) ∷
-    post 9 2 6 (kinds.SnapReply 12 2 true) ∷ post 9 2 0 (kinds.ReadAsk (key 9 1 7)) ∷
-    post 9 2 6 (kinds.BeatReply 5) ∷ post 9 2 6 (kinds.AppendReply true 13) ∷
-    post 9 2 6 (kinds.AppendReply true 13) ∷ post 9 2 6 (kinds.BeatReply 6) ∷
-    post 9 2 6 (kinds.AppendReply false 0) ∷ post 9 2 6 (kinds.BeatReply 5) ∷
-    post 9 2 6 (kinds.AppendReply true 13) ∷ post 9 2 0 (kinds.Propose (key 9 1 8) (proposals.Plain (codes "put x 0"))) ∷
-    post 2 5 6 (kinds.Append 8 1 12 (entry 9 6 no_key proposals.Blank ∷ entry 10 6 (key 2 1 14) (proposals.Plain (codes "put x 5")) ∷ entry 11 6 (key 2 1 15) (proposals.Plain (codes "put x 3")) ∷ entry 12 6 (key 2 1 16) (proposals.Plain (codes "put x 6")) ∷ entry 13 6 (key 2 1 17) (proposals.Plain (codes "put x 7")) ∷ entry 14 6 (key 2 1 19) (proposals.Plain (codes "put x 8")) ∷ [])) ∷ post 2 9 6 (kinds.Append 12 6 12 (entry 13 6 (key 2 1 17) (proposals.Plain (codes "put x 7")) ∷ entry 14 6 (key 2 1 19) (proposals.Plain (codes "put x 8")) ∷ [])) ∷
-    post 2 5 6 (kinds.Beat 0 7) ∷ post 2 9 6 (kinds.Beat 12 7) ∷
-    post 2 9 6 (kinds.Append 12 6 12 (entry 13 6 (key 2 1 17) (proposals.Plain (codes "put x 7")) ∷ entry 14 6 (key 2 1 19) (proposals.Plain (codes "put x 8")) ∷ [])) ∷ post 2 5 6 (kinds.Append 8 1 12 (entry 9 6 no_key proposals.Blank ∷ entry 10 6 (key 2 1 14) (proposals.Plain (codes "put x 5")) ∷ entry 11 6 (key 2 1 15) (proposals.Plain (codes "put x 3")) ∷ entry 12 6 (key 2 1 16) (proposals.Plain (codes "put x 6")) ∷ entry 13 6 (key 2 1 17) (proposals.Plain (codes "put x 7")) ∷ entry 14 6 (key 2 1 19) (proposals.Plain (codes "put x 8")) ∷ entry 15 6 (key 2 1 20) (proposals.Plain (codes "put x 2")) ∷ [])) ∷
-    post 2 9 6 (kinds.Append 12 6 12 (entry 13 6 (key 2 1 17) (proposals.Plain (codes "put x 7")) ∷ entry 14 6 (key 2 1 19) (proposals.Plain (codes "put x 8")) ∷ entry 15 6 (key 2 1 20) (proposals.Plain (codes "put x 2")) ∷ [])) ∷ post 2 9 0 (kinds.ReadAnswer (key 9 1 6) 11) ∷
-    post 2 9 6 (kinds.Append 12 6 12 (entry 13 6 (key 2 1 17) (proposals.Plain (codes "put x 7")) ∷ entry 14 6 (key 2 1 19) (proposals.Plain (codes "put x 8")) ∷ entry 15 6 (key 2 1 20) (proposals.Plain (codes "put x 2")) ∷ [])) ∷ post 2 9 6 (kinds.Append 12 6 12 (entry 13 6 (key 2 1 17) (proposals.Plain (codes "put x 7")) ∷ entry 14 6 (key 2 1 19) (proposals.Plain (codes "put x 8")) ∷ entry 15 6 (key 2 1 20) (proposals.Plain (codes "put x 2")) ∷ [])) ∷
-    post 2 5 6 (kinds.Append 8 1 12 (entry 9 6 no_key proposals.Blank ∷ entry 10 6 (key 2 1 14) (proposals.Plain (codes "put x 5")) ∷ entry 11 6 (key 2 1 15) (proposals.Plain (codes "put x 3")) ∷ entry 12 6 (key 2 1 16) (proposals.Plain (codes "put x 6")) ∷ entry 13 6 (key 2 1 17) (proposals.Plain (codes "put x 7")) ∷ entry 14 6 (key 2 1 19) (proposals.Plain (codes "put x 8")) ∷ entry 15 6 (key 2 1 20) (proposals.Plain (codes "put x 2")) ∷ entry 16 6 (key 2 1 21) (proposals.Plain (codes "put x 0")) ∷ [])) ∷ post 2 9 6 (kinds.Append 12 6 12 (entry 13 6 (key 2 1 17) (proposals.Plain (codes "put x 7")) ∷ entry 14 6 (key 2 1 19) (proposals.Plain (codes "put x 8")) ∷ entry 15 6 (key 2 1 20) (proposals.Plain (codes "put x 2")) ∷ entry 16 6 (key 2 1 21) (proposals.Plain (codes "put x 0")) ∷ [])) ∷
-    post 2 9 6 (kinds.Append 13 6 13 (entry 14 6 (key 2 1 19) (proposals.Plain (codes "put x 8")) ∷ entry 15 6 (key 2 1 20) (proposals.Plain (codes "put x 2")) ∷ entry 16 6 (key 2 1 21) (proposals.Plain (codes "put x 0")) ∷ [])) ∷ post 2 9 6 (kinds.Append 13 6 13 (entry 14 6 (key 2 1 19) (proposals.Plain (codes "put x 8")) ∷ entry 15 6 (key 2 1 20) (proposals.Plain (codes "put x 2")) ∷ entry 16 6 (key 2 1 21) (proposals.Plain (codes "put x 0")) ∷ [])) ∷
-    post 2 9 6 (kinds.Append 13 6 13 (entry 14 6 (key 2 1 19) (proposals.Plain (codes "put x 8")) ∷ entry 15 6 (key 2 1 20) (proposals.Plain (codes "put x 2")) ∷ entry 16 6 (key 2 1 21) (proposals.Plain (codes "put x 0")) ∷ [])) ∷ post 2 9 6 (kinds.Append 13 6 13 (entry 14 6 (key 2 1 19) (proposals.Plain (codes "put x 8")) ∷ entry 15 6 (key 2 1 20) (proposals.Plain (codes "put x 2")) ∷ entry 16 6 (key 2 1 21) (proposals.Plain (codes "put x 0")) ∷ [])) ∷
-    post 2 5 6 (kinds.Beat 0 8) ∷ post 2 9 6 (kinds.Beat 13 8) ∷
-    post 2 5 6 (kinds.Beat 0 9) ∷ post 2 9 6 (kinds.Beat 13 9) ∷
-    post 2 9 6 (kinds.Append 13 6 13 (entry 14 6 (key 2 1 19) (proposals.Plain (codes "put x 8")) ∷ entry 15 6 (key 2 1 20) (proposals.Plain (codes "put x 2")) ∷ entry 16 6 (key 2 1 21) (proposals.Plain (codes "put x 0")) ∷ [])) ∷ post 2 9 6 (kinds.Append 13 6 13 (entry 14 6 (key 2 1 19) (proposals.Plain (codes "put x 8")) ∷ entry 15 6 (key 2 1 20) (proposals.Plain (codes "put x 2")) ∷ entry 16 6 (key 2 1 21) (proposals.Plain (codes "put x 0")) ∷ [])) ∷
-    post 2 9 6 (kinds.Append 13 6 13 (entry 14 6 (key 2 1 19) (proposals.Plain (codes "put x 8")) ∷ entry 15 6 (key 2 1 20) (proposals.Plain (codes "put x 2")) ∷ entry 16 6 (key 2 1 21) (proposals.Plain (codes "put x 0")) ∷ [])) ∷ post 5 2 7 (kinds.Vote 1 1) ∷
-    post 5 9 7 (kinds.Vote 1 1) ∷ post 5 2 7 (kinds.BeatReply 0) ∷
-    post 5 2 7 (kinds.AppendReply false 0) ∷ post 5 2 7 (kinds.AppendReply false 0) ∷
-    post 5 2 7 (kinds.BeatReply 0) ∷ post 5 2 7 (kinds.BeatReply 0) ∷
-    post 5 2 7 (kinds.BeatReply 0) ∷ post 9 2 0 (kinds.ReadAsk (key 9 1 9)) ∷
-    post 9 5 7 (kinds.VoteReply false) ∷ post 5 2 8 (kinds.Vote 1 1) ∷
-    post 5 9 8 (kinds.Vote 1 1) ∷ post 9 5 8 (kinds.VoteReply false) ∷
-    post 9 5 8 (kinds.VoteReply false) ∷ post 9 5 8 (kinds.VoteReply false) ∷
-    post 2 5 8 (kinds.VoteReply false) ∷ post 2 5 8 (kinds.VoteReply false) ∷
-    post 2 5 8 (kinds.VoteReply false) ∷ post 9 2 9 (kinds.Vote 13 6) ∷
-    post 9 5 9 (kinds.Vote 13 6) ∷ post 9 5 9 (kinds.VoteReply false) ∷
-    post 2 9 9 (kinds.VoteReply false) ∷
+    post 2 5 1 (bodies.Vote 0 0) ∷ post 2 9 1 (bodies.Vote 0 0) ∷
+    post 5 2 1 (bodies.Vote 0 0) ∷ post 5 9 1 (bodies.Vote 0 0) ∷
+    post 5 2 1 (bodies.VoteReply false) ∷ post 5 2 1 (bodies.VoteReply false) ∷
+    post 9 2 1 (bodies.VoteReply true) ∷ post 9 5 1 (bodies.VoteReply false) ∷
+    post 2 5 1 (bodies.Append 0 0 0 (entry 1 1 no_key proposals.Blank ∷ [])) ∷ post 2 9 1 (bodies.Append 0 0 0 (entry 1 1 no_key proposals.Blank ∷ [])) ∷
+    post 2 5 1 (bodies.VoteReply false) ∷ post 9 5 1 (bodies.VoteReply false) ∷
+    post 2 5 1 (bodies.Append 0 0 0 (entry 1 1 no_key proposals.Blank ∷ entry 2 1 (key 2 1 4) (proposals.Plain (codes "put x 8")) ∷ [])) ∷ post 2 9 1 (bodies.Append 0 0 0 (entry 1 1 no_key proposals.Blank ∷ entry 2 1 (key 2 1 4) (proposals.Plain (codes "put x 8")) ∷ [])) ∷
+    post 9 2 2 (bodies.Vote 0 0) ∷ post 9 5 2 (bodies.Vote 0 0) ∷
+    post 2 5 1 (bodies.Append 0 0 0 (entry 1 1 no_key proposals.Blank ∷ entry 2 1 (key 2 1 4) (proposals.Plain (codes "put x 8")) ∷ entry 3 1 (key 2 1 5) (proposals.Plain (codes "put x 4")) ∷ [])) ∷ post 2 9 1 (bodies.Append 0 0 0 (entry 1 1 no_key proposals.Blank ∷ entry 2 1 (key 2 1 4) (proposals.Plain (codes "put x 8")) ∷ entry 3 1 (key 2 1 5) (proposals.Plain (codes "put x 4")) ∷ [])) ∷
+    post 2 5 1 (bodies.Append 0 0 0 (entry 1 1 no_key proposals.Blank ∷ entry 2 1 (key 2 1 4) (proposals.Plain (codes "put x 8")) ∷ entry 3 1 (key 2 1 5) (proposals.Plain (codes "put x 4")) ∷ entry 4 1 (key 2 1 6) (proposals.Plain (codes "put x 2")) ∷ [])) ∷ post 2 9 1 (bodies.Append 0 0 0 (entry 1 1 no_key proposals.Blank ∷ entry 2 1 (key 2 1 4) (proposals.Plain (codes "put x 8")) ∷ entry 3 1 (key 2 1 5) (proposals.Plain (codes "put x 4")) ∷ entry 4 1 (key 2 1 6) (proposals.Plain (codes "put x 2")) ∷ [])) ∷
+    post 5 2 1 (bodies.AppendReply true 1) ∷ post 5 9 2 (bodies.VoteReply false) ∷
+    post 5 2 2 (bodies.AppendReply false 0) ∷ post 5 2 2 (bodies.AppendReply false 0) ∷
+    post 5 2 2 (bodies.AppendReply false 0) ∷ post 9 2 3 (bodies.Vote 0 0) ∷
+    post 9 5 3 (bodies.Vote 0 0) ∷ post 9 2 3 (bodies.AppendReply false 0) ∷
+    post 9 2 3 (bodies.AppendReply false 0) ∷ post 2 5 1 (bodies.Append 0 0 0 (entry 1 1 no_key proposals.Blank ∷ entry 2 1 (key 2 1 4) (proposals.Plain (codes "put x 8")) ∷ entry 3 1 (key 2 1 5) (proposals.Plain (codes "put x 4")) ∷ entry 4 1 (key 2 1 6) (proposals.Plain (codes "put x 2")) ∷ entry 5 1 (key 2 1 7) (proposals.Plain (codes "put x 6")) ∷ [])) ∷
+    post 2 9 1 (bodies.Append 0 0 0 (entry 1 1 no_key proposals.Blank ∷ entry 2 1 (key 2 1 4) (proposals.Plain (codes "put x 8")) ∷ entry 3 1 (key 2 1 5) (proposals.Plain (codes "put x 4")) ∷ entry 4 1 (key 2 1 6) (proposals.Plain (codes "put x 2")) ∷ entry 5 1 (key 2 1 7) (proposals.Plain (codes "put x 6")) ∷ [])) ∷ post 2 5 1 (bodies.Beat 0 1) ∷
+    post 2 9 1 (bodies.Beat 0 1) ∷ post 2 5 1 (bodies.Append 0 0 0 (entry 1 1 no_key proposals.Blank ∷ entry 2 1 (key 2 1 4) (proposals.Plain (codes "put x 8")) ∷ entry 3 1 (key 2 1 5) (proposals.Plain (codes "put x 4")) ∷ entry 4 1 (key 2 1 6) (proposals.Plain (codes "put x 2")) ∷ entry 5 1 (key 2 1 7) (proposals.Plain (codes "put x 6")) ∷ entry 6 1 (key 2 1 8) (proposals.Plain (codes "put x 8")) ∷ [])) ∷
+    post 2 9 1 (bodies.Append 0 0 0 (entry 1 1 no_key proposals.Blank ∷ entry 2 1 (key 2 1 4) (proposals.Plain (codes "put x 8")) ∷ entry 3 1 (key 2 1 5) (proposals.Plain (codes "put x 4")) ∷ entry 4 1 (key 2 1 6) (proposals.Plain (codes "put x 2")) ∷ entry 5 1 (key 2 1 7) (proposals.Plain (codes "put x 6")) ∷ entry 6 1 (key 2 1 8) (proposals.Plain (codes "put x 8")) ∷ [])) ∷ post 9 2 3 (bodies.BeatReply 0) ∷
+    post 9 2 3 (bodies.AppendReply false 0) ∷ post 2 5 1 (bodies.Append 0 0 0 (entry 1 1 no_key proposals.Blank ∷ entry 2 1 (key 2 1 4) (proposals.Plain (codes "put x 8")) ∷ entry 3 1 (key 2 1 5) (proposals.Plain (codes "put x 4")) ∷ entry 4 1 (key 2 1 6) (proposals.Plain (codes "put x 2")) ∷ entry 5 1 (key 2 1 7) (proposals.Plain (codes "put x 6")) ∷ entry 6 1 (key 2 1 8) (proposals.Plain (codes "put x 8")) ∷ entry 7 1 (key 2 1 9) (proposals.Plain (codes "put x 5")) ∷ [])) ∷
+    post 2 9 1 (bodies.Append 0 0 0 (entry 1 1 no_key proposals.Blank ∷ entry 2 1 (key 2 1 4) (proposals.Plain (codes "put x 8")) ∷ entry 3 1 (key 2 1 5) (proposals.Plain (codes "put x 4")) ∷ entry 4 1 (key 2 1 6) (proposals.Plain (codes "put x 2")) ∷ entry 5 1 (key 2 1 7) (proposals.Plain (codes "put x 6")) ∷ entry 6 1 (key 2 1 8) (proposals.Plain (codes "put x 8")) ∷ entry 7 1 (key 2 1 9) (proposals.Plain (codes "put x 5")) ∷ [])) ∷ post 2 5 1 (bodies.Append 0 0 0 (entry 1 1 no_key proposals.Blank ∷ entry 2 1 (key 2 1 4) (proposals.Plain (codes "put x 8")) ∷ entry 3 1 (key 2 1 5) (proposals.Plain (codes "put x 4")) ∷ entry 4 1 (key 2 1 6) (proposals.Plain (codes "put x 2")) ∷ entry 5 1 (key 2 1 7) (proposals.Plain (codes "put x 6")) ∷ entry 6 1 (key 2 1 8) (proposals.Plain (codes "put x 8")) ∷ entry 7 1 (key 2 1 9) (proposals.Plain (codes "put x 5")) ∷ entry 8 1 (key 2 1 10) (proposals.Plain (codes "put x 1")) ∷ [])) ∷
+    post 2 9 1 (bodies.Append 0 0 0 (entry 1 1 no_key proposals.Blank ∷ entry 2 1 (key 2 1 4) (proposals.Plain (codes "put x 8")) ∷ entry 3 1 (key 2 1 5) (proposals.Plain (codes "put x 4")) ∷ entry 4 1 (key 2 1 6) (proposals.Plain (codes "put x 2")) ∷ entry 5 1 (key 2 1 7) (proposals.Plain (codes "put x 6")) ∷ entry 6 1 (key 2 1 8) (proposals.Plain (codes "put x 8")) ∷ entry 7 1 (key 2 1 9) (proposals.Plain (codes "put x 5")) ∷ entry 8 1 (key 2 1 10) (proposals.Plain (codes "put x 1")) ∷ [])) ∷ post 9 2 4 (bodies.Vote 0 0) ∷
+    post 9 5 4 (bodies.Vote 0 0) ∷ post 9 2 4 (bodies.VoteReply false) ∷
+    post 5 9 3 (bodies.VoteReply false) ∷ post 9 2 4 (bodies.AppendReply false 0) ∷
+    post 5 2 4 (bodies.Vote 1 1) ∷ post 5 9 4 (bodies.Vote 1 1) ∷
+    post 5 2 4 (bodies.AppendReply false 0) ∷ post 5 2 4 (bodies.AppendReply false 0) ∷
+    post 5 2 4 (bodies.AppendReply false 0) ∷ post 5 9 4 (bodies.VoteReply false) ∷
+    post 5 2 4 (bodies.AppendReply false 0) ∷ post 5 9 4 (bodies.VoteReply false) ∷
+    post 9 5 4 (bodies.VoteReply false) ∷ post 5 2 5 (bodies.Vote 1 1) ∷
+    post 5 9 5 (bodies.Vote 1 1) ∷ post 2 5 5 (bodies.VoteReply false) ∷
+    post 2 5 5 (bodies.VoteReply false) ∷ post 2 5 6 (bodies.Vote 8 1) ∷
+    post 2 9 6 (bodies.Vote 8 1) ∷ post 9 2 5 (bodies.Vote 0 0) ∷
+    post 9 5 5 (bodies.Vote 0 0) ∷ post 9 2 6 (bodies.VoteReply true) ∷
+    post 2 5 6 (bodies.VoteReply false) ∷ post 2 5 6 (bodies.Append 8 1 0 (entry 9 6 no_key proposals.Blank ∷ [])) ∷
+    post 2 9 6 (bodies.Append 8 1 0 (entry 9 6 no_key proposals.Blank ∷ [])) ∷ post 9 2 6 (bodies.VoteReply true) ∷
+    post 9 2 6 (bodies.AppendReply false 0) ∷ post 9 2 6 (bodies.VoteReply true) ∷
+    post 9 2 6 (bodies.AppendReply false 0) ∷ post 2 9 6 (bodies.Append 0 0 0 (entry 1 1 no_key proposals.Blank ∷ entry 2 1 (key 2 1 4) (proposals.Plain (codes "put x 8")) ∷ entry 3 1 (key 2 1 5) (proposals.Plain (codes "put x 4")) ∷ entry 4 1 (key 2 1 6) (proposals.Plain (codes "put x 2")) ∷ entry 5 1 (key 2 1 7) (proposals.Plain (codes "put x 6")) ∷ entry 6 1 (key 2 1 8) (proposals.Plain (codes "put x 8")) ∷ entry 7 1 (key 2 1 9) (proposals.Plain (codes "put x 5")) ∷ entry 8 1 (key 2 1 10) (proposals.Plain (codes "put x 1")) ∷ entry 9 6 no_key proposals.Blank ∷ [])) ∷
+    post 2 9 6 (bodies.Append 0 0 0 (entry 1 1 no_key proposals.Blank ∷ entry 2 1 (key 2 1 4) (proposals.Plain (codes "put x 8")) ∷ entry 3 1 (key 2 1 5) (proposals.Plain (codes "put x 4")) ∷ entry 4 1 (key 2 1 6) (proposals.Plain (codes "put x 2")) ∷ entry 5 1 (key 2 1 7) (proposals.Plain (codes "put x 6")) ∷ entry 6 1 (key 2 1 8) (proposals.Plain (codes "put x 8")) ∷ entry 7 1 (key 2 1 9) (proposals.Plain (codes "put x 5")) ∷ entry 8 1 (key 2 1 10) (proposals.Plain (codes "put x 1")) ∷ entry 9 6 no_key proposals.Blank ∷ [])) ∷ post 9 2 6 (bodies.AppendReply false 0) ∷
+    post 2 5 6 (bodies.Append 8 1 0 (entry 9 6 no_key proposals.Blank ∷ entry 10 6 (key 2 1 14) (proposals.Plain (codes "put x 5")) ∷ [])) ∷ post 2 9 6 (bodies.Append 0 0 0 (entry 1 1 no_key proposals.Blank ∷ entry 2 1 (key 2 1 4) (proposals.Plain (codes "put x 8")) ∷ entry 3 1 (key 2 1 5) (proposals.Plain (codes "put x 4")) ∷ entry 4 1 (key 2 1 6) (proposals.Plain (codes "put x 2")) ∷ entry 5 1 (key 2 1 7) (proposals.Plain (codes "put x 6")) ∷ entry 6 1 (key 2 1 8) (proposals.Plain (codes "put x 8")) ∷ entry 7 1 (key 2 1 9) (proposals.Plain (codes "put x 5")) ∷ entry 8 1 (key 2 1 10) (proposals.Plain (codes "put x 1")) ∷ entry 9 6 no_key proposals.Blank ∷ entry 10 6 (key 2 1 14) (proposals.Plain (codes "put x 5")) ∷ [])) ∷
+    post 9 2 6 (bodies.AppendReply true 9) ∷ post 9 2 6 (bodies.AppendReply true 9) ∷
+    post 2 5 6 (bodies.Beat 0 1) ∷ post 2 9 6 (bodies.Beat 0 1) ∷
+    post 9 2 6 (bodies.AppendReply true 9) ∷ post 2 9 6 (bodies.Append 9 6 9 (entry 10 6 (key 2 1 14) (proposals.Plain (codes "put x 5")) ∷ [])) ∷
+    post 2 9 6 (bodies.Append 9 6 9 (entry 10 6 (key 2 1 14) (proposals.Plain (codes "put x 5")) ∷ [])) ∷ post 9 2 6 (bodies.AppendReply true 10) ∷
+    post 9 2 6 (bodies.AppendReply true 10) ∷ post 9 2 6 (bodies.AppendReply true 9) ∷
+    post 9 2 6 (bodies.AppendReply true 10) ∷ post 9 2 6 (bodies.AppendReply true 10) ∷
+    post 2 5 6 (bodies.Append 8 1 9 (entry 9 6 no_key proposals.Blank ∷ entry 10 6 (key 2 1 14) (proposals.Plain (codes "put x 5")) ∷ entry 11 6 (key 2 1 15) (proposals.Plain (codes "put x 3")) ∷ [])) ∷ post 2 9 6 (bodies.Append 9 6 9 (entry 10 6 (key 2 1 14) (proposals.Plain (codes "put x 5")) ∷ entry 11 6 (key 2 1 15) (proposals.Plain (codes "put x 3")) ∷ [])) ∷
+    post 2 9 6 (bodies.Append 10 6 10 (entry 11 6 (key 2 1 15) (proposals.Plain (codes "put x 3")) ∷ [])) ∷ post 2 9 6 (bodies.Append 10 6 10 (entry 11 6 (key 2 1 15) (proposals.Plain (codes "put x 3")) ∷ [])) ∷
+    post 2 9 6 (bodies.Append 10 6 10 (entry 11 6 (key 2 1 15) (proposals.Plain (codes "put x 3")) ∷ [])) ∷ post 2 9 6 (bodies.Append 10 6 10 (entry 11 6 (key 2 1 15) (proposals.Plain (codes "put x 3")) ∷ [])) ∷
+    post 2 9 6 (bodies.Append 10 6 10 (entry 11 6 (key 2 1 15) (proposals.Plain (codes "put x 3")) ∷ [])) ∷ post 2 9 6 (bodies.Append 10 6 10 (entry 11 6 (key 2 1 15) (proposals.Plain (codes "put x 3")) ∷ [])) ∷
+    post 9 2 6 (bodies.AppendReply true 11) ∷ post 9 2 6 (bodies.AppendReply true 11) ∷
+    post 9 2 0 (bodies.ReadAsk (key 9 1 6)) ∷ post 9 2 6 (bodies.AppendReply true 11) ∷
+    post 9 2 6 (bodies.AppendReply true 11) ∷ post 2 5 6 (bodies.Append 8 1 10 (entry 9 6 no_key proposals.Blank ∷ entry 10 6 (key 2 1 14) (proposals.Plain (codes "put x 5")) ∷ entry 11 6 (key 2 1 15) (proposals.Plain (codes "put x 3")) ∷ entry 12 6 (key 2 1 16) (proposals.Plain (codes "put x 6")) ∷ [])) ∷
+    post 2 9 6 (bodies.Append 10 6 10 (entry 11 6 (key 2 1 15) (proposals.Plain (codes "put x 3")) ∷ entry 12 6 (key 2 1 16) (proposals.Plain (codes "put x 6")) ∷ [])) ∷ post 2 5 6 (bodies.Beat 0 2) ∷
+    post 2 9 6 (bodies.Beat 10 2) ∷ post 2 9 6 (bodies.Append 11 6 11 (entry 12 6 (key 2 1 16) (proposals.Plain (codes "put x 6")) ∷ [])) ∷
+    post 9 2 6 (bodies.BeatReply 2) ∷ post 9 2 6 (bodies.AppendReply true 12) ∷
+    post 5 2 6 (bodies.BeatReply 2) ∷ post 2 5 6 (bodies.Append 8 1 11 (entry 9 6 no_key proposals.Blank ∷ entry 10 6 (key 2 1 14) (proposals.Plain (codes "put x 5")) ∷ entry 11 6 (key 2 1 15) (proposals.Plain (codes "put x 3")) ∷ entry 12 6 (key 2 1 16) (proposals.Plain (codes "put x 6")) ∷ entry 13 6 (key 2 1 17) (proposals.Plain (codes "put x 7")) ∷ [])) ∷
+    post 2 9 6 (bodies.Append 11 6 11 (entry 12 6 (key 2 1 16) (proposals.Plain (codes "put x 6")) ∷ entry 13 6 (key 2 1 17) (proposals.Plain (codes "put x 7")) ∷ [])) ∷ post 2 9 6 (bodies.Append 11 6 11 (entry 12 6 (key 2 1 16) (proposals.Plain (codes "put x 6")) ∷ entry 13 6 (key 2 1 17) (proposals.Plain (codes "put x 7")) ∷ [])) ∷
+    post 2 5 6 (bodies.Beat 0 3) ∷ post 2 9 6 (bodies.Beat 11 3) ∷
+    post 2 9 6 (bodies.Append 11 6 11 (entry 12 6 (key 2 1 16) (proposals.Plain (codes "put x 6")) ∷ entry 13 6 (key 2 1 17) (proposals.Plain (codes "put x 7")) ∷ [])) ∷ post 2 9 6 (bodies.Append 11 6 11 (entry 12 6 (key 2 1 16) (proposals.Plain (codes "put x 6")) ∷ entry 13 6 (key 2 1 17) (proposals.Plain (codes "put x 7")) ∷ [])) ∷
+    post 9 2 6 (bodies.AppendReply true 12) ∷ post 9 2 6 (bodies.BeatReply 2) ∷
+    post 2 5 6 (bodies.Beat 0 4) ∷ post 2 9 6 (bodies.Beat 11 4) ∷
+    post 2 9 6 (bodies.Append 11 6 11 (entry 12 6 (key 2 1 16) (proposals.Plain (codes "put x 6")) ∷ entry 13 6 (key 2 1 17) (proposals.Plain (codes "put x 7")) ∷ [])) ∷ post 2 9 6 (bodies.Append 12 6 12 (entry 13 6 (key 2 1 17) (proposals.Plain (codes "put x 7")) ∷ [])) ∷
+    post 2 9 6 (bodies.Append 12 6 12 (entry 13 6 (key 2 1 17) (proposals.Plain (codes "put x 7")) ∷ [])) ∷ post 2 9 6 (bodies.Append 12 6 12 (entry 13 6 (key 2 1 17) (proposals.Plain (codes "put x 7")) ∷ [])) ∷
+    post 2 5 6 (bodies.Beat 0 5) ∷ post 2 9 6 (bodies.Beat 12 5) ∷
+    post 2 9 6 (bodies.Append 12 6 12 (entry 13 6 (key 2 1 17) (proposals.Plain (codes "put x 7")) ∷ [])) ∷ post 2 5 6 (bodies.Beat 0 6) ∷
+    post 2 9 6 (bodies.Beat 12 6) ∷ post 2 9 6 (bodies.SnapChunk 12 6 1 1 16 (1 ∷ 2 ∷ 3 ∷ [])) ∷
+    post 9 2 6 (bodies.AppendReply true 12) ∷ post 9 2 6 (bodies.AppendReply true 13) ∷
+    post 9 2 6 (bodies.SnapReply 12 2 true) ∷ post 9 2 0 (bodies.ReadAsk (key 9 1 7)) ∷
+    post 9 2 6 (bodies.BeatReply 5) ∷ post 9 2 6 (bodies.AppendReply true 13) ∷
+    post 9 2 6 (bodies.AppendReply true 13) ∷ post 9 2 6 (bodies.BeatReply 6) ∷
+    post 9 2 6 (bodies.AppendReply false 0) ∷ post 9 2 6 (bodies.BeatReply 5) ∷
+    post 9 2 6 (bodies.AppendReply true 13) ∷ post 9 2 0 (bodies.Propose (key 9 1 8) (proposals.Plain (codes "put x 0"))) ∷
+    post 2 5 6 (bodies.Append 8 1 12 (entry 9 6 no_key proposals.Blank ∷ entry 10 6 (key 2 1 14) (proposals.Plain (codes "put x 5")) ∷ entry 11 6 (key 2 1 15) (proposals.Plain (codes "put x 3")) ∷ entry 12 6 (key 2 1 16) (proposals.Plain (codes "put x 6")) ∷ entry 13 6 (key 2 1 17) (proposals.Plain (codes "put x 7")) ∷ entry 14 6 (key 2 1 19) (proposals.Plain (codes "put x 8")) ∷ [])) ∷ post 2 9 6 (bodies.Append 12 6 12 (entry 13 6 (key 2 1 17) (proposals.Plain (codes "put x 7")) ∷ entry 14 6 (key 2 1 19) (proposals.Plain (codes "put x 8")) ∷ [])) ∷
+    post 2 5 6 (bodies.Beat 0 7) ∷ post 2 9 6 (bodies.Beat 12 7) ∷
+    post 2 9 6 (bodies.Append 12 6 12 (entry 13 6 (key 2 1 17) (proposals.Plain (codes "put x 7")) ∷ entry 14 6 (key 2 1 19) (proposals.Plain (codes "put x 8")) ∷ [])) ∷ post 2 5 6 (bodies.Append 8 1 12 (entry 9 6 no_key proposals.Blank ∷ entry 10 6 (key 2 1 14) (proposals.Plain (codes "put x 5")) ∷ entry 11 6 (key 2 1 15) (proposals.Plain (codes "put x 3")) ∷ entry 12 6 (key 2 1 16) (proposals.Plain (codes "put x 6")) ∷ entry 13 6 (key 2 1 17) (proposals.Plain (codes "put x 7")) ∷ entry 14 6 (key 2 1 19) (proposals.Plain (codes "put x 8")) ∷ entry 15 6 (key 2 1 20) (proposals.Plain (codes "put x 2")) ∷ [])) ∷
+    post 2 9 6 (bodies.Append 12 6 12 (entry 13 6 (key 2 1 17) (proposals.Plain (codes "put x 7")) ∷ entry 14 6 (key 2 1 19) (proposals.Plain (codes "put x 8")) ∷ entry 15 6 (key 2 1 20) (proposals.Plain (codes "put x 2")) ∷ [])) ∷ post 2 9 0 (bodies.ReadAnswer (key 9 1 6) 11) ∷
+    post 2 9 6 (bodies.Append 12 6 12 (entry 13 6 (key 2 1 17) (proposals.Plain (codes "put x 7")) ∷ entry 14 6 (key 2 1 19) (proposals.Plain (codes "put x 8")) ∷ entry 15 6 (key 2 1 20) (proposals.Plain (codes "put x 2")) ∷ [])) ∷ post 2 9 6 (bodies.Append 12 6 12 (entry 13 6 (key 2 1 17) (proposals.Plain (codes "put x 7")) ∷ entry 14 6 (key 2 1 19) (proposals.Plain (codes "put x 8")) ∷ entry 15 6 (key 2 1 20) (proposals.Plain (codes "put x 2")) ∷ [])) ∷
+    post 2 5 6 (bodies.Append 8 1 12 (entry 9 6 no_key proposals.Blank ∷ entry 10 6 (key 2 1 14) (proposals.Plain (codes "put x 5")) ∷ entry 11 6 (key 2 1 15) (proposals.Plain (codes "put x 3")) ∷ entry 12 6 (key 2 1 16) (proposals.Plain (codes "put x 6")) ∷ entry 13 6 (key 2 1 17) (proposals.Plain (codes "put x 7")) ∷ entry 14 6 (key 2 1 19) (proposals.Plain (codes "put x 8")) ∷ entry 15 6 (key 2 1 20) (proposals.Plain (codes "put x 2")) ∷ entry 16 6 (key 2 1 21) (proposals.Plain (codes "put x 0")) ∷ [])) ∷ post 2 9 6 (bodies.Append 12 6 12 (entry 13 6 (key 2 1 17) (proposals.Plain (codes "put x 7")) ∷ entry 14 6 (key 2 1 19) (proposals.Plain (codes "put x 8")) ∷ entry 15 6 (key 2 1 20) (proposals.Plain (codes "put x 2")) ∷ entry 16 6 (key 2 1 21) (proposals.Plain (codes "put x 0")) ∷ [])) ∷
+    post 2 9 6 (bodies.Append 13 6 13 (entry 14 6 (key 2 1 19) (proposals.Plain (codes "put x 8")) ∷ entry 15 6 (key 2 1 20) (proposals.Plain (codes "put x 2")) ∷ entry 16 6 (key 2 1 21) (proposals.Plain (codes "put x 0")) ∷ [])) ∷ post 2 9 6 (bodies.Append 13 6 13 (entry 14 6 (key 2 1 19) (proposals.Plain (codes "put x 8")) ∷ entry 15 6 (key 2 1 20) (proposals.Plain (codes "put x 2")) ∷ entry 16 6 (key 2 1 21) (proposals.Plain (codes "put x 0")) ∷ [])) ∷
+    post 2 9 6 (bodies.Append 13 6 13 (entry 14 6 (key 2 1 19) (proposals.Plain (codes "put x 8")) ∷ entry 15 6 (key 2 1 20) (proposals.Plain (codes "put x 2")) ∷ entry 16 6 (key 2 1 21) (proposals.Plain (codes "put x 0")) ∷ [])) ∷ post 2 9 6 (bodies.Append 13 6 13 (entry 14 6 (key 2 1 19) (proposals.Plain (codes "put x 8")) ∷ entry 15 6 (key 2 1 20) (proposals.Plain (codes "put x 2")) ∷ entry 16 6 (key 2 1 21) (proposals.Plain (codes "put x 0")) ∷ [])) ∷
+    post 2 5 6 (bodies.Beat 0 8) ∷ post 2 9 6 (bodies.Beat 13 8) ∷
+    post 2 5 6 (bodies.Beat 0 9) ∷ post 2 9 6 (bodies.Beat 13 9) ∷
+    post 2 9 6 (bodies.Append 13 6 13 (entry 14 6 (key 2 1 19) (proposals.Plain (codes "put x 8")) ∷ entry 15 6 (key 2 1 20) (proposals.Plain (codes "put x 2")) ∷ entry 16 6 (key 2 1 21) (proposals.Plain (codes "put x 0")) ∷ [])) ∷ post 2 9 6 (bodies.Append 13 6 13 (entry 14 6 (key 2 1 19) (proposals.Plain (codes "put x 8")) ∷ entry 15 6 (key 2 1 20) (proposals.Plain (codes "put x 2")) ∷ entry 16 6 (key 2 1 21) (proposals.Plain (codes "put x 0")) ∷ [])) ∷
+    post 2 9 6 (bodies.Append 13 6 13 (entry 14 6 (key 2 1 19) (proposals.Plain (codes "put x 8")) ∷ entry 15 6 (key 2 1 20) (proposals.Plain (codes "put x 2")) ∷ entry 16 6 (key 2 1 21) (proposals.Plain (codes "put x 0")) ∷ [])) ∷ post 5 2 7 (bodies.Vote 1 1) ∷
+    post 5 9 7 (bodies.Vote 1 1) ∷ post 5 2 7 (bodies.BeatReply 0) ∷
+    post 5 2 7 (bodies.AppendReply false 0) ∷ post 5 2 7 (bodies.AppendReply false 0) ∷
+    post 5 2 7 (bodies.BeatReply 0) ∷ post 5 2 7 (bodies.BeatReply 0) ∷
+    post 5 2 7 (bodies.BeatReply 0) ∷ post 9 2 0 (bodies.ReadAsk (key 9 1 9)) ∷
+    post 9 5 7 (bodies.VoteReply false) ∷ post 5 2 8 (bodies.Vote 1 1) ∷
+    post 5 9 8 (bodies.Vote 1 1) ∷ post 9 5 8 (bodies.VoteReply false) ∷
+    post 9 5 8 (bodies.VoteReply false) ∷ post 9 5 8 (bodies.VoteReply false) ∷
+    post 2 5 8 (bodies.VoteReply false) ∷ post 2 5 8 (bodies.VoteReply false) ∷
+    post 2 5 8 (bodies.VoteReply false) ∷ post 9 2 9 (bodies.Vote 13 6) ∷
+    post 9 5 9 (bodies.Vote 13 6) ∷ post 9 5 9 (bodies.VoteReply false) ∷
+    post 2 9 9 (bodies.VoteReply false) ∷
     []

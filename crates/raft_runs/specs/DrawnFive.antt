@@ -4,7 +4,7 @@ use Rattle.std.specs.Prelude.{List, [], ◌∷◌, codes, true, false}
 use Rattle.host_ids.specs.declared.entry.Entry.{Entry}
 use Rattle.host_ids.specs.declared.proposal.Proposal.TheVariants as proposals
 use Rattle.wire_codec.specs.declared.envelope.Envelope.{Envelope}
-use Rattle.wire_codec.specs.declared.envelope.Body.TheVariants as kinds
+use Rattle.wire_codec.specs.declared.envelope.Body.TheVariants as bodies
 use Rattle.raft_model.specs.declared.event.LaneEvent.{LaneEvent}
 use Rattle.raft_model.specs.declared.event.LaneEvent.TheVariants as events
 use Rattle.raft_model.specs.declared.note.Note.{Note}
@@ -140,101 +140,101 @@ replicas_of =
 -- what was sent
 abbrev pub wire_of : List Envelope
 wire_of =
-    post 1 2 1 (kinds.Vote 0 0) ∷ post 1 3 1 (kinds.Vote 0 0) ∷
-    post 1 4 1 (kinds.Vote 0 0) ∷ post 1 5 1 (kinds.Vote 0 0) ∷
-    post 3 1 1 (kinds.VoteReply true) ∷ post 2 1 1 (kinds.VoteReply true) ∷
-    post 3 1 1 (kinds.VoteReply true) ∷ post 4 1 1 (kinds.VoteReply true) ∷
-    post 3 1 1 (kinds.VoteReply true) ∷ post 4 1 1 (kinds.VoteReply true) ∷
-    post 3 1 1 (kinds.VoteReply true) ∷ post 5 1 1 (kinds.VoteReply true) ∷
-    post 1 2 1 (kinds.Append 0 0 0 (entry 1 1 no_key proposals.Blank ∷ [])) ∷ post 1 3 1 (kinds.Append 0 0 0 (entry 1 1 no_key proposals.Blank ∷ [])) ∷
-    post 1 4 1 (kinds.Append 0 0 0 (entry 1 1 no_key proposals.Blank ∷ [])) ∷ post 1 5 1 (kinds.Append 0 0 0 (entry 1 1 no_key proposals.Blank ∷ [])) ∷
-    post 1 2 1 (kinds.Append 0 0 0 (entry 1 1 no_key proposals.Blank ∷ entry 2 1 (key 1 1 3) (proposals.Plain (codes "put x 4")) ∷ [])) ∷ post 1 3 1 (kinds.Append 0 0 0 (entry 1 1 no_key proposals.Blank ∷ entry 2 1 (key 1 1 3) (proposals.Plain (codes "put x 4")) ∷ [])) ∷
-    post 1 4 1 (kinds.Append 0 0 0 (entry 1 1 no_key proposals.Blank ∷ entry 2 1 (key 1 1 3) (proposals.Plain (codes "put x 4")) ∷ [])) ∷ post 1 5 1 (kinds.Append 0 0 0 (entry 1 1 no_key proposals.Blank ∷ entry 2 1 (key 1 1 3) (proposals.Plain (codes "put x 4")) ∷ [])) ∷
-    post 5 1 1 (kinds.AppendReply true 1) ∷ post 3 1 1 (kinds.AppendReply true 1) ∷
-    post 2 1 1 (kinds.AppendReply true 2) ∷ post 2 1 1 (kinds.AppendReply true 2) ∷
-    post 2 1 0 (kinds.Propose (key 2 1 1) (proposals.Plain (codes "put x 9"))) ∷ post 1 3 1 (kinds.Append 1 1 0 (entry 2 1 (key 1 1 3) (proposals.Plain (codes "put x 4")) ∷ [])) ∷
-    post 1 2 1 (kinds.Beat 0 1) ∷ post 1 3 1 (kinds.Beat 0 1) ∷
-    post 1 4 1 (kinds.Beat 0 1) ∷ post 1 5 1 (kinds.Beat 0 1) ∷
-    post 4 1 1 (kinds.AppendReply true 2) ∷ post 3 1 0 (kinds.ReadAsk (key 3 1 4)) ∷
-    post 5 1 1 (kinds.BeatReply 1) ∷ post 1 2 1 (kinds.Append 0 0 0 (entry 1 1 no_key proposals.Blank ∷ entry 2 1 (key 1 1 3) (proposals.Plain (codes "put x 4")) ∷ entry 3 1 (key 2 1 1) (proposals.Plain (codes "put x 9")) ∷ [])) ∷
-    post 1 3 1 (kinds.Append 1 1 0 (entry 2 1 (key 1 1 3) (proposals.Plain (codes "put x 4")) ∷ entry 3 1 (key 2 1 1) (proposals.Plain (codes "put x 9")) ∷ [])) ∷ post 1 4 1 (kinds.Append 0 0 0 (entry 1 1 no_key proposals.Blank ∷ entry 2 1 (key 1 1 3) (proposals.Plain (codes "put x 4")) ∷ entry 3 1 (key 2 1 1) (proposals.Plain (codes "put x 9")) ∷ [])) ∷
-    post 1 5 1 (kinds.Append 0 0 0 (entry 1 1 no_key proposals.Blank ∷ entry 2 1 (key 1 1 3) (proposals.Plain (codes "put x 4")) ∷ entry 3 1 (key 2 1 1) (proposals.Plain (codes "put x 9")) ∷ [])) ∷ post 1 4 1 (kinds.Append 2 1 1 (entry 3 1 (key 2 1 1) (proposals.Plain (codes "put x 9")) ∷ [])) ∷
-    post 1 2 1 (kinds.Beat 0 2) ∷ post 1 3 1 (kinds.Beat 1 2) ∷
-    post 1 4 1 (kinds.Beat 1 2) ∷ post 1 5 1 (kinds.Beat 0 2) ∷
-    post 1 2 1 (kinds.Beat 0 3) ∷ post 1 3 1 (kinds.Beat 1 3) ∷
-    post 1 4 1 (kinds.Beat 1 3) ∷ post 1 5 1 (kinds.Beat 0 3) ∷
-    post 5 1 1 (kinds.BeatReply 2) ∷ post 2 1 1 (kinds.BeatReply 3) ∷
-    post 1 2 1 (kinds.Append 0 0 1 (entry 1 1 no_key proposals.Blank ∷ entry 2 1 (key 1 1 3) (proposals.Plain (codes "put x 4")) ∷ entry 3 1 (key 2 1 1) (proposals.Plain (codes "put x 9")) ∷ entry 4 1 (key 1 1 4) (proposals.Plain (codes "put x 7")) ∷ [])) ∷ post 1 3 1 (kinds.Append 1 1 1 (entry 2 1 (key 1 1 3) (proposals.Plain (codes "put x 4")) ∷ entry 3 1 (key 2 1 1) (proposals.Plain (codes "put x 9")) ∷ entry 4 1 (key 1 1 4) (proposals.Plain (codes "put x 7")) ∷ [])) ∷
-    post 1 4 1 (kinds.Append 2 1 1 (entry 3 1 (key 2 1 1) (proposals.Plain (codes "put x 9")) ∷ entry 4 1 (key 1 1 4) (proposals.Plain (codes "put x 7")) ∷ [])) ∷ post 1 5 1 (kinds.Append 0 0 1 (entry 1 1 no_key proposals.Blank ∷ entry 2 1 (key 1 1 3) (proposals.Plain (codes "put x 4")) ∷ entry 3 1 (key 2 1 1) (proposals.Plain (codes "put x 9")) ∷ entry 4 1 (key 1 1 4) (proposals.Plain (codes "put x 7")) ∷ [])) ∷
-    post 5 1 1 (kinds.AppendReply true 1) ∷ post 1 5 1 (kinds.Append 1 1 1 (entry 2 1 (key 1 1 3) (proposals.Plain (codes "put x 4")) ∷ entry 3 1 (key 2 1 1) (proposals.Plain (codes "put x 9")) ∷ entry 4 1 (key 1 1 4) (proposals.Plain (codes "put x 7")) ∷ [])) ∷
-    post 1 2 1 (kinds.Beat 0 4) ∷ post 1 3 1 (kinds.Beat 1 4) ∷
-    post 1 4 1 (kinds.Beat 1 4) ∷ post 1 5 1 (kinds.Beat 1 4) ∷
-    post 1 2 1 (kinds.Append 0 0 1 (entry 1 1 no_key proposals.Blank ∷ entry 2 1 (key 1 1 3) (proposals.Plain (codes "put x 4")) ∷ entry 3 1 (key 2 1 1) (proposals.Plain (codes "put x 9")) ∷ entry 4 1 (key 1 1 4) (proposals.Plain (codes "put x 7")) ∷ entry 5 1 (key 1 1 5) (proposals.Plain (codes "put x 2")) ∷ [])) ∷ post 1 3 1 (kinds.Append 1 1 1 (entry 2 1 (key 1 1 3) (proposals.Plain (codes "put x 4")) ∷ entry 3 1 (key 2 1 1) (proposals.Plain (codes "put x 9")) ∷ entry 4 1 (key 1 1 4) (proposals.Plain (codes "put x 7")) ∷ entry 5 1 (key 1 1 5) (proposals.Plain (codes "put x 2")) ∷ [])) ∷
-    post 1 4 1 (kinds.Append 2 1 1 (entry 3 1 (key 2 1 1) (proposals.Plain (codes "put x 9")) ∷ entry 4 1 (key 1 1 4) (proposals.Plain (codes "put x 7")) ∷ entry 5 1 (key 1 1 5) (proposals.Plain (codes "put x 2")) ∷ [])) ∷ post 1 5 1 (kinds.Append 1 1 1 (entry 2 1 (key 1 1 3) (proposals.Plain (codes "put x 4")) ∷ entry 3 1 (key 2 1 1) (proposals.Plain (codes "put x 9")) ∷ entry 4 1 (key 1 1 4) (proposals.Plain (codes "put x 7")) ∷ entry 5 1 (key 1 1 5) (proposals.Plain (codes "put x 2")) ∷ [])) ∷
-    post 1 2 1 (kinds.Append 0 0 1 (entry 1 1 no_key proposals.Blank ∷ entry 2 1 (key 1 1 3) (proposals.Plain (codes "put x 4")) ∷ entry 3 1 (key 2 1 1) (proposals.Plain (codes "put x 9")) ∷ entry 4 1 (key 1 1 4) (proposals.Plain (codes "put x 7")) ∷ entry 5 1 (key 1 1 5) (proposals.Plain (codes "put x 2")) ∷ entry 6 1 (key 1 1 6) (proposals.Plain (codes "put x 3")) ∷ [])) ∷ post 1 3 1 (kinds.Append 1 1 1 (entry 2 1 (key 1 1 3) (proposals.Plain (codes "put x 4")) ∷ entry 3 1 (key 2 1 1) (proposals.Plain (codes "put x 9")) ∷ entry 4 1 (key 1 1 4) (proposals.Plain (codes "put x 7")) ∷ entry 5 1 (key 1 1 5) (proposals.Plain (codes "put x 2")) ∷ entry 6 1 (key 1 1 6) (proposals.Plain (codes "put x 3")) ∷ [])) ∷
-    post 1 4 1 (kinds.Append 2 1 1 (entry 3 1 (key 2 1 1) (proposals.Plain (codes "put x 9")) ∷ entry 4 1 (key 1 1 4) (proposals.Plain (codes "put x 7")) ∷ entry 5 1 (key 1 1 5) (proposals.Plain (codes "put x 2")) ∷ entry 6 1 (key 1 1 6) (proposals.Plain (codes "put x 3")) ∷ [])) ∷ post 1 5 1 (kinds.Append 1 1 1 (entry 2 1 (key 1 1 3) (proposals.Plain (codes "put x 4")) ∷ entry 3 1 (key 2 1 1) (proposals.Plain (codes "put x 9")) ∷ entry 4 1 (key 1 1 4) (proposals.Plain (codes "put x 7")) ∷ entry 5 1 (key 1 1 5) (proposals.Plain (codes "put x 2")) ∷ entry 6 1 (key 1 1 6) (proposals.Plain (codes "put x 3")) ∷ [])) ∷
-    post 1 2 1 (kinds.Append 0 0 1 (entry 1 1 no_key proposals.Blank ∷ entry 2 1 (key 1 1 3) (proposals.Plain (codes "put x 4")) ∷ entry 3 1 (key 2 1 1) (proposals.Plain (codes "put x 9")) ∷ entry 4 1 (key 1 1 4) (proposals.Plain (codes "put x 7")) ∷ entry 5 1 (key 1 1 5) (proposals.Plain (codes "put x 2")) ∷ entry 6 1 (key 1 1 6) (proposals.Plain (codes "put x 3")) ∷ [])) ∷ post 5 1 1 (kinds.AppendReply true 4) ∷
-    post 5 1 1 (kinds.AppendReply true 5) ∷ post 5 1 1 (kinds.AppendReply true 6) ∷
-    post 4 1 1 (kinds.BeatReply 2) ∷ post 4 1 1 (kinds.BeatReply 2) ∷
-    post 4 1 1 (kinds.BeatReply 3) ∷ post 4 1 1 (kinds.AppendReply true 4) ∷
-    post 4 1 1 (kinds.AppendReply true 1) ∷ post 4 1 1 (kinds.AppendReply true 6) ∷
-    post 1 3 0 (kinds.ReadAnswer (key 3 1 4) 1) ∷ post 1 5 1 (kinds.Append 1 1 1 (entry 2 1 (key 1 1 3) (proposals.Plain (codes "put x 4")) ∷ entry 3 1 (key 2 1 1) (proposals.Plain (codes "put x 9")) ∷ entry 4 1 (key 1 1 4) (proposals.Plain (codes "put x 7")) ∷ entry 5 1 (key 1 1 5) (proposals.Plain (codes "put x 2")) ∷ entry 6 1 (key 1 1 6) (proposals.Plain (codes "put x 3")) ∷ [])) ∷
-    post 1 2 1 (kinds.Append 0 0 1 (entry 1 1 no_key proposals.Blank ∷ entry 2 1 (key 1 1 3) (proposals.Plain (codes "put x 4")) ∷ entry 3 1 (key 2 1 1) (proposals.Plain (codes "put x 9")) ∷ entry 4 1 (key 1 1 4) (proposals.Plain (codes "put x 7")) ∷ entry 5 1 (key 1 1 5) (proposals.Plain (codes "put x 2")) ∷ entry 6 1 (key 1 1 6) (proposals.Plain (codes "put x 3")) ∷ [])) ∷ post 1 2 1 (kinds.Append 0 0 1 (entry 1 1 no_key proposals.Blank ∷ entry 2 1 (key 1 1 3) (proposals.Plain (codes "put x 4")) ∷ entry 3 1 (key 2 1 1) (proposals.Plain (codes "put x 9")) ∷ entry 4 1 (key 1 1 4) (proposals.Plain (codes "put x 7")) ∷ entry 5 1 (key 1 1 5) (proposals.Plain (codes "put x 2")) ∷ entry 6 1 (key 1 1 6) (proposals.Plain (codes "put x 3")) ∷ [])) ∷
-    post 1 2 1 (kinds.Beat 0 5) ∷ post 1 3 1 (kinds.Beat 1 5) ∷
-    post 1 4 1 (kinds.Beat 1 5) ∷ post 1 5 1 (kinds.Beat 1 5) ∷
-    post 1 2 1 (kinds.Append 0 0 1 (entry 1 1 no_key proposals.Blank ∷ entry 2 1 (key 1 1 3) (proposals.Plain (codes "put x 4")) ∷ entry 3 1 (key 2 1 1) (proposals.Plain (codes "put x 9")) ∷ entry 4 1 (key 1 1 4) (proposals.Plain (codes "put x 7")) ∷ entry 5 1 (key 1 1 5) (proposals.Plain (codes "put x 2")) ∷ entry 6 1 (key 1 1 6) (proposals.Plain (codes "put x 3")) ∷ entry 7 1 (key 1 1 7) (proposals.Plain (codes "put x 3")) ∷ [])) ∷ post 1 3 1 (kinds.Append 1 1 1 (entry 2 1 (key 1 1 3) (proposals.Plain (codes "put x 4")) ∷ entry 3 1 (key 2 1 1) (proposals.Plain (codes "put x 9")) ∷ entry 4 1 (key 1 1 4) (proposals.Plain (codes "put x 7")) ∷ entry 5 1 (key 1 1 5) (proposals.Plain (codes "put x 2")) ∷ entry 6 1 (key 1 1 6) (proposals.Plain (codes "put x 3")) ∷ entry 7 1 (key 1 1 7) (proposals.Plain (codes "put x 3")) ∷ [])) ∷
-    post 1 4 1 (kinds.Append 2 1 1 (entry 3 1 (key 2 1 1) (proposals.Plain (codes "put x 9")) ∷ entry 4 1 (key 1 1 4) (proposals.Plain (codes "put x 7")) ∷ entry 5 1 (key 1 1 5) (proposals.Plain (codes "put x 2")) ∷ entry 6 1 (key 1 1 6) (proposals.Plain (codes "put x 3")) ∷ entry 7 1 (key 1 1 7) (proposals.Plain (codes "put x 3")) ∷ [])) ∷ post 1 5 1 (kinds.Append 1 1 1 (entry 2 1 (key 1 1 3) (proposals.Plain (codes "put x 4")) ∷ entry 3 1 (key 2 1 1) (proposals.Plain (codes "put x 9")) ∷ entry 4 1 (key 1 1 4) (proposals.Plain (codes "put x 7")) ∷ entry 5 1 (key 1 1 5) (proposals.Plain (codes "put x 2")) ∷ entry 6 1 (key 1 1 6) (proposals.Plain (codes "put x 3")) ∷ entry 7 1 (key 1 1 7) (proposals.Plain (codes "put x 3")) ∷ [])) ∷
-    post 1 2 1 (kinds.Append 0 0 1 (entry 1 1 no_key proposals.Blank ∷ entry 2 1 (key 1 1 3) (proposals.Plain (codes "put x 4")) ∷ entry 3 1 (key 2 1 1) (proposals.Plain (codes "put x 9")) ∷ entry 4 1 (key 1 1 4) (proposals.Plain (codes "put x 7")) ∷ entry 5 1 (key 1 1 5) (proposals.Plain (codes "put x 2")) ∷ entry 6 1 (key 1 1 6) (proposals.Plain (codes "put x 3")) ∷ entry 7 1 (key 1 1 7) (proposals.Plain (codes "put x 3")) ∷ entry 8 1 (key 1 1 8) (proposals.Plain (codes "put x 8")) ∷ [])) ∷ post 1 3 1 (kinds.Append 1 1 1 (entry 2 1 (key 1 1 3) (proposals.Plain (codes "put x 4")) ∷ entry 3 1 (key 2 1 1) (proposals.Plain (codes "put x 9")) ∷ entry 4 1 (key 1 1 4) (proposals.Plain (codes "put x 7")) ∷ entry 5 1 (key 1 1 5) (proposals.Plain (codes "put x 2")) ∷ entry 6 1 (key 1 1 6) (proposals.Plain (codes "put x 3")) ∷ entry 7 1 (key 1 1 7) (proposals.Plain (codes "put x 3")) ∷ entry 8 1 (key 1 1 8) (proposals.Plain (codes "put x 8")) ∷ [])) ∷
-    post 1 4 1 (kinds.Append 2 1 1 (entry 3 1 (key 2 1 1) (proposals.Plain (codes "put x 9")) ∷ entry 4 1 (key 1 1 4) (proposals.Plain (codes "put x 7")) ∷ entry 5 1 (key 1 1 5) (proposals.Plain (codes "put x 2")) ∷ entry 6 1 (key 1 1 6) (proposals.Plain (codes "put x 3")) ∷ entry 7 1 (key 1 1 7) (proposals.Plain (codes "put x 3")) ∷ entry 8 1 (key 1 1 8) (proposals.Plain (codes "put x 8")) ∷ [])) ∷ post 1 5 1 (kinds.Append 1 1 1 (entry 2 1 (key 1 1 3) (proposals.Plain (codes "put x 4")) ∷ entry 3 1 (key 2 1 1) (proposals.Plain (codes "put x 9")) ∷ entry 4 1 (key 1 1 4) (proposals.Plain (codes "put x 7")) ∷ entry 5 1 (key 1 1 5) (proposals.Plain (codes "put x 2")) ∷ entry 6 1 (key 1 1 6) (proposals.Plain (codes "put x 3")) ∷ entry 7 1 (key 1 1 7) (proposals.Plain (codes "put x 3")) ∷ entry 8 1 (key 1 1 8) (proposals.Plain (codes "put x 8")) ∷ [])) ∷
-    post 1 5 1 (kinds.Append 6 1 2 (entry 7 1 (key 1 1 7) (proposals.Plain (codes "put x 3")) ∷ entry 8 1 (key 1 1 8) (proposals.Plain (codes "put x 8")) ∷ [])) ∷ post 4 1 2 (kinds.Vote 6 1) ∷
-    post 4 2 2 (kinds.Vote 6 1) ∷ post 4 3 2 (kinds.Vote 6 1) ∷
-    post 4 5 2 (kinds.Vote 6 1) ∷ post 1 3 1 (kinds.SnapChunk 2 1 1 1 16 (1 ∷ 2 ∷ 3 ∷ [])) ∷
-    post 1 5 1 (kinds.Append 6 1 2 (entry 7 1 (key 1 1 7) (proposals.Plain (codes "put x 3")) ∷ entry 8 1 (key 1 1 8) (proposals.Plain (codes "put x 8")) ∷ [])) ∷ post 1 5 1 (kinds.Append 6 1 2 (entry 7 1 (key 1 1 7) (proposals.Plain (codes "put x 3")) ∷ entry 8 1 (key 1 1 8) (proposals.Plain (codes "put x 8")) ∷ [])) ∷
-    post 1 2 1 (kinds.Append 0 0 2 (entry 1 1 no_key proposals.Blank ∷ entry 2 1 (key 1 1 3) (proposals.Plain (codes "put x 4")) ∷ entry 3 1 (key 2 1 1) (proposals.Plain (codes "put x 9")) ∷ entry 4 1 (key 1 1 4) (proposals.Plain (codes "put x 7")) ∷ entry 5 1 (key 1 1 5) (proposals.Plain (codes "put x 2")) ∷ entry 6 1 (key 1 1 6) (proposals.Plain (codes "put x 3")) ∷ entry 7 1 (key 1 1 7) (proposals.Plain (codes "put x 3")) ∷ entry 8 1 (key 1 1 8) (proposals.Plain (codes "put x 8")) ∷ entry 9 1 (key 1 1 9) (proposals.Plain (codes "put x 3")) ∷ [])) ∷ post 1 3 1 (kinds.Append 1 1 2 (entry 2 1 (key 1 1 3) (proposals.Plain (codes "put x 4")) ∷ entry 3 1 (key 2 1 1) (proposals.Plain (codes "put x 9")) ∷ entry 4 1 (key 1 1 4) (proposals.Plain (codes "put x 7")) ∷ entry 5 1 (key 1 1 5) (proposals.Plain (codes "put x 2")) ∷ entry 6 1 (key 1 1 6) (proposals.Plain (codes "put x 3")) ∷ entry 7 1 (key 1 1 7) (proposals.Plain (codes "put x 3")) ∷ entry 8 1 (key 1 1 8) (proposals.Plain (codes "put x 8")) ∷ entry 9 1 (key 1 1 9) (proposals.Plain (codes "put x 3")) ∷ [])) ∷
-    post 1 4 1 (kinds.Append 2 1 2 (entry 3 1 (key 2 1 1) (proposals.Plain (codes "put x 9")) ∷ entry 4 1 (key 1 1 4) (proposals.Plain (codes "put x 7")) ∷ entry 5 1 (key 1 1 5) (proposals.Plain (codes "put x 2")) ∷ entry 6 1 (key 1 1 6) (proposals.Plain (codes "put x 3")) ∷ entry 7 1 (key 1 1 7) (proposals.Plain (codes "put x 3")) ∷ entry 8 1 (key 1 1 8) (proposals.Plain (codes "put x 8")) ∷ entry 9 1 (key 1 1 9) (proposals.Plain (codes "put x 3")) ∷ [])) ∷ post 1 5 1 (kinds.Append 6 1 2 (entry 7 1 (key 1 1 7) (proposals.Plain (codes "put x 3")) ∷ entry 8 1 (key 1 1 8) (proposals.Plain (codes "put x 8")) ∷ entry 9 1 (key 1 1 9) (proposals.Plain (codes "put x 3")) ∷ [])) ∷
-    post 1 2 1 (kinds.Append 0 0 2 (entry 1 1 no_key proposals.Blank ∷ entry 2 1 (key 1 1 3) (proposals.Plain (codes "put x 4")) ∷ entry 3 1 (key 2 1 1) (proposals.Plain (codes "put x 9")) ∷ entry 4 1 (key 1 1 4) (proposals.Plain (codes "put x 7")) ∷ entry 5 1 (key 1 1 5) (proposals.Plain (codes "put x 2")) ∷ entry 6 1 (key 1 1 6) (proposals.Plain (codes "put x 3")) ∷ entry 7 1 (key 1 1 7) (proposals.Plain (codes "put x 3")) ∷ entry 8 1 (key 1 1 8) (proposals.Plain (codes "put x 8")) ∷ entry 9 1 (key 1 1 9) (proposals.Plain (codes "put x 3")) ∷ entry 10 1 (key 1 1 10) (proposals.Plain (codes "put x 6")) ∷ [])) ∷ post 1 3 1 (kinds.Append 1 1 2 (entry 2 1 (key 1 1 3) (proposals.Plain (codes "put x 4")) ∷ entry 3 1 (key 2 1 1) (proposals.Plain (codes "put x 9")) ∷ entry 4 1 (key 1 1 4) (proposals.Plain (codes "put x 7")) ∷ entry 5 1 (key 1 1 5) (proposals.Plain (codes "put x 2")) ∷ entry 6 1 (key 1 1 6) (proposals.Plain (codes "put x 3")) ∷ entry 7 1 (key 1 1 7) (proposals.Plain (codes "put x 3")) ∷ entry 8 1 (key 1 1 8) (proposals.Plain (codes "put x 8")) ∷ entry 9 1 (key 1 1 9) (proposals.Plain (codes "put x 3")) ∷ entry 10 1 (key 1 1 10) (proposals.Plain (codes "put x 6")) ∷ [])) ∷
-    post 1 4 1 (kinds.Append 2 1 2 (entry 3 1 (key 2 1 1) (proposals.Plain (codes "put x 9")) ∷ entry 4 1 (key 1 1 4) (proposals.Plain (codes "put x 7")) ∷ entry 5 1 (key 1 1 5) (proposals.Plain (codes "put x 2")) ∷ entry 6 1 (key 1 1 6) (proposals.Plain (codes "put x 3")) ∷ entry 7 1 (key 1 1 7) (proposals.Plain (codes "put x 3")) ∷ entry 8 1 (key 1 1 8) (proposals.Plain (codes "put x 8")) ∷ entry 9 1 (key 1 1 9) (proposals.Plain (codes "put x 3")) ∷ entry 10 1 (key 1 1 10) (proposals.Plain (codes "put x 6")) ∷ [])) ∷ post 1 5 1 (kinds.Append 6 1 2 (entry 7 1 (key 1 1 7) (proposals.Plain (codes "put x 3")) ∷ entry 8 1 (key 1 1 8) (proposals.Plain (codes "put x 8")) ∷ entry 9 1 (key 1 1 9) (proposals.Plain (codes "put x 3")) ∷ entry 10 1 (key 1 1 10) (proposals.Plain (codes "put x 6")) ∷ [])) ∷
-    post 1 4 1 (kinds.Append 6 1 6 (entry 7 1 (key 1 1 7) (proposals.Plain (codes "put x 3")) ∷ entry 8 1 (key 1 1 8) (proposals.Plain (codes "put x 8")) ∷ entry 9 1 (key 1 1 9) (proposals.Plain (codes "put x 3")) ∷ entry 10 1 (key 1 1 10) (proposals.Plain (codes "put x 6")) ∷ [])) ∷ post 1 2 1 (kinds.Append 0 0 6 (entry 1 1 no_key proposals.Blank ∷ entry 2 1 (key 1 1 3) (proposals.Plain (codes "put x 4")) ∷ entry 3 1 (key 2 1 1) (proposals.Plain (codes "put x 9")) ∷ entry 4 1 (key 1 1 4) (proposals.Plain (codes "put x 7")) ∷ entry 5 1 (key 1 1 5) (proposals.Plain (codes "put x 2")) ∷ entry 6 1 (key 1 1 6) (proposals.Plain (codes "put x 3")) ∷ entry 7 1 (key 1 1 7) (proposals.Plain (codes "put x 3")) ∷ entry 8 1 (key 1 1 8) (proposals.Plain (codes "put x 8")) ∷ entry 9 1 (key 1 1 9) (proposals.Plain (codes "put x 3")) ∷ entry 10 1 (key 1 1 10) (proposals.Plain (codes "put x 6")) ∷ entry 11 1 (key 1 1 11) (proposals.Plain (codes "put x 9")) ∷ [])) ∷
-    post 1 3 1 (kinds.Append 1 1 6 (entry 2 1 (key 1 1 3) (proposals.Plain (codes "put x 4")) ∷ entry 3 1 (key 2 1 1) (proposals.Plain (codes "put x 9")) ∷ entry 4 1 (key 1 1 4) (proposals.Plain (codes "put x 7")) ∷ entry 5 1 (key 1 1 5) (proposals.Plain (codes "put x 2")) ∷ entry 6 1 (key 1 1 6) (proposals.Plain (codes "put x 3")) ∷ entry 7 1 (key 1 1 7) (proposals.Plain (codes "put x 3")) ∷ entry 8 1 (key 1 1 8) (proposals.Plain (codes "put x 8")) ∷ entry 9 1 (key 1 1 9) (proposals.Plain (codes "put x 3")) ∷ entry 10 1 (key 1 1 10) (proposals.Plain (codes "put x 6")) ∷ entry 11 1 (key 1 1 11) (proposals.Plain (codes "put x 9")) ∷ [])) ∷ post 1 4 1 (kinds.Append 6 1 6 (entry 7 1 (key 1 1 7) (proposals.Plain (codes "put x 3")) ∷ entry 8 1 (key 1 1 8) (proposals.Plain (codes "put x 8")) ∷ entry 9 1 (key 1 1 9) (proposals.Plain (codes "put x 3")) ∷ entry 10 1 (key 1 1 10) (proposals.Plain (codes "put x 6")) ∷ entry 11 1 (key 1 1 11) (proposals.Plain (codes "put x 9")) ∷ [])) ∷
-    post 1 5 1 (kinds.Append 6 1 6 (entry 7 1 (key 1 1 7) (proposals.Plain (codes "put x 3")) ∷ entry 8 1 (key 1 1 8) (proposals.Plain (codes "put x 8")) ∷ entry 9 1 (key 1 1 9) (proposals.Plain (codes "put x 3")) ∷ entry 10 1 (key 1 1 10) (proposals.Plain (codes "put x 6")) ∷ entry 11 1 (key 1 1 11) (proposals.Plain (codes "put x 9")) ∷ [])) ∷ post 4 1 2 (kinds.AppendReply false 0) ∷
-    post 5 1 2 (kinds.Vote 6 1) ∷ post 5 2 2 (kinds.Vote 6 1) ∷
-    post 5 3 2 (kinds.Vote 6 1) ∷ post 5 4 2 (kinds.Vote 6 1) ∷
-    post 5 1 2 (kinds.AppendReply false 0) ∷ post 5 1 2 (kinds.AppendReply false 0) ∷
-    post 5 1 3 (kinds.Vote 6 1) ∷ post 5 2 3 (kinds.Vote 6 1) ∷
-    post 5 3 3 (kinds.Vote 6 1) ∷ post 5 4 3 (kinds.Vote 6 1) ∷
-    post 1 2 1 (kinds.Append 0 0 6 (entry 1 1 no_key proposals.Blank ∷ entry 2 1 (key 1 1 3) (proposals.Plain (codes "put x 4")) ∷ entry 3 1 (key 2 1 1) (proposals.Plain (codes "put x 9")) ∷ entry 4 1 (key 1 1 4) (proposals.Plain (codes "put x 7")) ∷ entry 5 1 (key 1 1 5) (proposals.Plain (codes "put x 2")) ∷ entry 6 1 (key 1 1 6) (proposals.Plain (codes "put x 3")) ∷ entry 7 1 (key 1 1 7) (proposals.Plain (codes "put x 3")) ∷ entry 8 1 (key 1 1 8) (proposals.Plain (codes "put x 8")) ∷ entry 9 1 (key 1 1 9) (proposals.Plain (codes "put x 3")) ∷ entry 10 1 (key 1 1 10) (proposals.Plain (codes "put x 6")) ∷ entry 11 1 (key 1 1 11) (proposals.Plain (codes "put x 9")) ∷ entry 12 1 (key 1 1 12) (proposals.Plain (codes "put x 6")) ∷ [])) ∷ post 1 3 1 (kinds.Append 1 1 6 (entry 2 1 (key 1 1 3) (proposals.Plain (codes "put x 4")) ∷ entry 3 1 (key 2 1 1) (proposals.Plain (codes "put x 9")) ∷ entry 4 1 (key 1 1 4) (proposals.Plain (codes "put x 7")) ∷ entry 5 1 (key 1 1 5) (proposals.Plain (codes "put x 2")) ∷ entry 6 1 (key 1 1 6) (proposals.Plain (codes "put x 3")) ∷ entry 7 1 (key 1 1 7) (proposals.Plain (codes "put x 3")) ∷ entry 8 1 (key 1 1 8) (proposals.Plain (codes "put x 8")) ∷ entry 9 1 (key 1 1 9) (proposals.Plain (codes "put x 3")) ∷ entry 10 1 (key 1 1 10) (proposals.Plain (codes "put x 6")) ∷ entry 11 1 (key 1 1 11) (proposals.Plain (codes "put x 9")) ∷ entry 12 1 (key 1 1 12) (proposals.Plain (codes "put x 6")) ∷ [])) ∷
-    post 1 4 1 (kinds.Append 6 1 6 (entry 7 1 (key 1 1 7) (proposals.Plain (codes "put x 3")) ∷ entry 8 1 (key 1 1 8) (proposals.Plain (codes "put x 8")) ∷ entry 9 1 (key 1 1 9) (proposals.Plain (codes "put x 3")) ∷ entry 10 1 (key 1 1 10) (proposals.Plain (codes "put x 6")) ∷ entry 11 1 (key 1 1 11) (proposals.Plain (codes "put x 9")) ∷ entry 12 1 (key 1 1 12) (proposals.Plain (codes "put x 6")) ∷ [])) ∷ post 1 5 1 (kinds.Append 6 1 6 (entry 7 1 (key 1 1 7) (proposals.Plain (codes "put x 3")) ∷ entry 8 1 (key 1 1 8) (proposals.Plain (codes "put x 8")) ∷ entry 9 1 (key 1 1 9) (proposals.Plain (codes "put x 3")) ∷ entry 10 1 (key 1 1 10) (proposals.Plain (codes "put x 6")) ∷ entry 11 1 (key 1 1 11) (proposals.Plain (codes "put x 9")) ∷ entry 12 1 (key 1 1 12) (proposals.Plain (codes "put x 6")) ∷ [])) ∷
-    post 1 2 1 (kinds.Beat 0 6) ∷ post 1 3 1 (kinds.Beat 1 6) ∷
-    post 1 4 1 (kinds.Beat 6 6) ∷ post 1 5 1 (kinds.Beat 6 6) ∷
-    post 5 1 3 (kinds.BeatReply 0) ∷ post 4 5 3 (kinds.VoteReply true) ∷
-    post 2 1 1 (kinds.AppendReply true 5) ∷ post 2 1 1 (kinds.BeatReply 4) ∷
-    post 2 5 2 (kinds.VoteReply true) ∷ post 2 5 2 (kinds.VoteReply true) ∷
-    post 2 5 2 (kinds.VoteReply true) ∷ post 2 1 3 (kinds.Vote 5 1) ∷
-    post 2 3 3 (kinds.Vote 5 1) ∷ post 2 4 3 (kinds.Vote 5 1) ∷
-    post 2 5 3 (kinds.Vote 5 1) ∷ post 5 2 3 (kinds.VoteReply false) ∷
-    post 3 1 2 (kinds.Vote 1 1) ∷ post 3 2 2 (kinds.Vote 1 1) ∷
-    post 3 4 2 (kinds.Vote 1 1) ∷ post 3 5 2 (kinds.Vote 1 1) ∷
-    post 4 2 3 (kinds.VoteReply false) ∷ post 5 3 3 (kinds.VoteReply false) ∷
-    post 2 1 4 (kinds.Vote 5 1) ∷ post 2 3 4 (kinds.Vote 5 1) ∷
-    post 2 4 4 (kinds.Vote 5 1) ∷ post 2 5 4 (kinds.Vote 5 1) ∷
-    post 2 3 4 (kinds.VoteReply false) ∷ post 3 1 3 (kinds.Vote 1 1) ∷
-    post 3 2 3 (kinds.Vote 1 1) ∷ post 3 4 3 (kinds.Vote 1 1) ∷
-    post 3 5 3 (kinds.Vote 1 1) ∷ post 3 2 3 (kinds.VoteReply false) ∷
-    post 1 3 3 (kinds.VoteReply false) ∷ post 1 3 3 (kinds.VoteReply false) ∷
-    post 4 1 4 (kinds.Vote 6 1) ∷ post 4 2 4 (kinds.Vote 6 1) ∷
-    post 4 3 4 (kinds.Vote 6 1) ∷ post 4 5 4 (kinds.Vote 6 1) ∷
-    post 4 3 4 (kinds.VoteReply false) ∷ post 4 2 4 (kinds.VoteReply false) ∷
-    post 4 3 4 (kinds.VoteReply false) ∷ post 3 1 4 (kinds.Vote 1 1) ∷
-    post 3 2 4 (kinds.Vote 1 1) ∷ post 3 4 4 (kinds.Vote 1 1) ∷
-    post 3 5 4 (kinds.Vote 1 1) ∷ post 3 4 4 (kinds.VoteReply false) ∷
-    post 3 1 5 (kinds.Vote 1 1) ∷ post 3 2 5 (kinds.Vote 1 1) ∷
-    post 3 4 5 (kinds.Vote 1 1) ∷ post 3 5 5 (kinds.Vote 1 1) ∷
-    post 1 3 4 (kinds.VoteReply false) ∷ post 1 2 5 (kinds.Vote 12 1) ∷
-    post 1 3 5 (kinds.Vote 12 1) ∷ post 1 4 5 (kinds.Vote 12 1) ∷
-    post 1 5 5 (kinds.Vote 12 1) ∷ post 4 1 5 (kinds.VoteReply true) ∷
-    post 4 1 6 (kinds.Vote 6 1) ∷ post 4 2 6 (kinds.Vote 6 1) ∷
-    post 4 3 6 (kinds.Vote 6 1) ∷ post 4 5 6 (kinds.Vote 6 1) ∷
-    post 4 1 6 (kinds.VoteReply false) ∷ post 5 1 5 (kinds.VoteReply true) ∷
-    post 3 4 6 (kinds.VoteReply true) ∷ post 3 1 6 (kinds.VoteReply false) ∷
-    post 5 4 6 (kinds.VoteReply true) ∷ post 5 4 6 (kinds.VoteReply true) ∷
+    post 1 2 1 (bodies.Vote 0 0) ∷ post 1 3 1 (bodies.Vote 0 0) ∷
+    post 1 4 1 (bodies.Vote 0 0) ∷ post 1 5 1 (bodies.Vote 0 0) ∷
+    post 3 1 1 (bodies.VoteReply true) ∷ post 2 1 1 (bodies.VoteReply true) ∷
+    post 3 1 1 (bodies.VoteReply true) ∷ post 4 1 1 (bodies.VoteReply true) ∷
+    post 3 1 1 (bodies.VoteReply true) ∷ post 4 1 1 (bodies.VoteReply true) ∷
+    post 3 1 1 (bodies.VoteReply true) ∷ post 5 1 1 (bodies.VoteReply true) ∷
+    post 1 2 1 (bodies.Append 0 0 0 (entry 1 1 no_key proposals.Blank ∷ [])) ∷ post 1 3 1 (bodies.Append 0 0 0 (entry 1 1 no_key proposals.Blank ∷ [])) ∷
+    post 1 4 1 (bodies.Append 0 0 0 (entry 1 1 no_key proposals.Blank ∷ [])) ∷ post 1 5 1 (bodies.Append 0 0 0 (entry 1 1 no_key proposals.Blank ∷ [])) ∷
+    post 1 2 1 (bodies.Append 0 0 0 (entry 1 1 no_key proposals.Blank ∷ entry 2 1 (key 1 1 3) (proposals.Plain (codes "put x 4")) ∷ [])) ∷ post 1 3 1 (bodies.Append 0 0 0 (entry 1 1 no_key proposals.Blank ∷ entry 2 1 (key 1 1 3) (proposals.Plain (codes "put x 4")) ∷ [])) ∷
+    post 1 4 1 (bodies.Append 0 0 0 (entry 1 1 no_key proposals.Blank ∷ entry 2 1 (key 1 1 3) (proposals.Plain (codes "put x 4")) ∷ [])) ∷ post 1 5 1 (bodies.Append 0 0 0 (entry 1 1 no_key proposals.Blank ∷ entry 2 1 (key 1 1 3) (proposals.Plain (codes "put x 4")) ∷ [])) ∷
+    post 5 1 1 (bodies.AppendReply true 1) ∷ post 3 1 1 (bodies.AppendReply true 1) ∷
+    post 2 1 1 (bodies.AppendReply true 2) ∷ post 2 1 1 (bodies.AppendReply true 2) ∷
+    post 2 1 0 (bodies.Propose (key 2 1 1) (proposals.Plain (codes "put x 9"))) ∷ post 1 3 1 (bodies.Append 1 1 0 (entry 2 1 (key 1 1 3) (proposals.Plain (codes "put x 4")) ∷ [])) ∷
+    post 1 2 1 (bodies.Beat 0 1) ∷ post 1 3 1 (bodies.Beat 0 1) ∷
+    post 1 4 1 (bodies.Beat 0 1) ∷ post 1 5 1 (bodies.Beat 0 1) ∷
+    post 4 1 1 (bodies.AppendReply true 2) ∷ post 3 1 0 (bodies.ReadAsk (key 3 1 4)) ∷
+    post 5 1 1 (bodies.BeatReply 1) ∷ post 1 2 1 (bodies.Append 0 0 0 (entry 1 1 no_key proposals.Blank ∷ entry 2 1 (key 1 1 3) (proposals.Plain (codes "put x 4")) ∷ entry 3 1 (key 2 1 1) (proposals.Plain (codes "put x 9")) ∷ [])) ∷
+    post 1 3 1 (bodies.Append 1 1 0 (entry 2 1 (key 1 1 3) (proposals.Plain (codes "put x 4")) ∷ entry 3 1 (key 2 1 1) (proposals.Plain (codes "put x 9")) ∷ [])) ∷ post 1 4 1 (bodies.Append 0 0 0 (entry 1 1 no_key proposals.Blank ∷ entry 2 1 (key 1 1 3) (proposals.Plain (codes "put x 4")) ∷ entry 3 1 (key 2 1 1) (proposals.Plain (codes "put x 9")) ∷ [])) ∷
+    post 1 5 1 (bodies.Append 0 0 0 (entry 1 1 no_key proposals.Blank ∷ entry 2 1 (key 1 1 3) (proposals.Plain (codes "put x 4")) ∷ entry 3 1 (key 2 1 1) (proposals.Plain (codes "put x 9")) ∷ [])) ∷ post 1 4 1 (bodies.Append 2 1 1 (entry 3 1 (key 2 1 1) (proposals.Plain (codes "put x 9")) ∷ [])) ∷
+    post 1 2 1 (bodies.Beat 0 2) ∷ post 1 3 1 (bodies.Beat 1 2) ∷
+    post 1 4 1 (bodies.Beat 1 2) ∷ post 1 5 1 (bodies.Beat 0 2) ∷
+    post 1 2 1 (bodies.Beat 0 3) ∷ post 1 3 1 (bodies.Beat 1 3) ∷
+    post 1 4 1 (bodies.Beat 1 3) ∷ post 1 5 1 (bodies.Beat 0 3) ∷
+    post 5 1 1 (bodies.BeatReply 2) ∷ post 2 1 1 (bodies.BeatReply 3) ∷
+    post 1 2 1 (bodies.Append 0 0 1 (entry 1 1 no_key proposals.Blank ∷ entry 2 1 (key 1 1 3) (proposals.Plain (codes "put x 4")) ∷ entry 3 1 (key 2 1 1) (proposals.Plain (codes "put x 9")) ∷ entry 4 1 (key 1 1 4) (proposals.Plain (codes "put x 7")) ∷ [])) ∷ post 1 3 1 (bodies.Append 1 1 1 (entry 2 1 (key 1 1 3) (proposals.Plain (codes "put x 4")) ∷ entry 3 1 (key 2 1 1) (proposals.Plain (codes "put x 9")) ∷ entry 4 1 (key 1 1 4) (proposals.Plain (codes "put x 7")) ∷ [])) ∷
+    post 1 4 1 (bodies.Append 2 1 1 (entry 3 1 (key 2 1 1) (proposals.Plain (codes "put x 9")) ∷ entry 4 1 (key 1 1 4) (proposals.Plain (codes "put x 7")) ∷ [])) ∷ post 1 5 1 (bodies.Append 0 0 1 (entry 1 1 no_key proposals.Blank ∷ entry 2 1 (key 1 1 3) (proposals.Plain (codes "put x 4")) ∷ entry 3 1 (key 2 1 1) (proposals.Plain (codes "put x 9")) ∷ entry 4 1 (key 1 1 4) (proposals.Plain (codes "put x 7")) ∷ [])) ∷
+    post 5 1 1 (bodies.AppendReply true 1) ∷ post 1 5 1 (bodies.Append 1 1 1 (entry 2 1 (key 1 1 3) (proposals.Plain (codes "put x 4")) ∷ entry 3 1 (key 2 1 1) (proposals.Plain (codes "put x 9")) ∷ entry 4 1 (key 1 1 4) (proposals.Plain (codes "put x 7")) ∷ [])) ∷
+    post 1 2 1 (bodies.Beat 0 4) ∷ post 1 3 1 (bodies.Beat 1 4) ∷
+    post 1 4 1 (bodies.Beat 1 4) ∷ post 1 5 1 (bodies.Beat 1 4) ∷
+    post 1 2 1 (bodies.Append 0 0 1 (entry 1 1 no_key proposals.Blank ∷ entry 2 1 (key 1 1 3) (proposals.Plain (codes "put x 4")) ∷ entry 3 1 (key 2 1 1) (proposals.Plain (codes "put x 9")) ∷ entry 4 1 (key 1 1 4) (proposals.Plain (codes "put x 7")) ∷ entry 5 1 (key 1 1 5) (proposals.Plain (codes "put x 2")) ∷ [])) ∷ post 1 3 1 (bodies.Append 1 1 1 (entry 2 1 (key 1 1 3) (proposals.Plain (codes "put x 4")) ∷ entry 3 1 (key 2 1 1) (proposals.Plain (codes "put x 9")) ∷ entry 4 1 (key 1 1 4) (proposals.Plain (codes "put x 7")) ∷ entry 5 1 (key 1 1 5) (proposals.Plain (codes "put x 2")) ∷ [])) ∷
+    post 1 4 1 (bodies.Append 2 1 1 (entry 3 1 (key 2 1 1) (proposals.Plain (codes "put x 9")) ∷ entry 4 1 (key 1 1 4) (proposals.Plain (codes "put x 7")) ∷ entry 5 1 (key 1 1 5) (proposals.Plain (codes "put x 2")) ∷ [])) ∷ post 1 5 1 (bodies.Append 1 1 1 (entry 2 1 (key 1 1 3) (proposals.Plain (codes "put x 4")) ∷ entry 3 1 (key 2 1 1) (proposals.Plain (codes "put x 9")) ∷ entry 4 1 (key 1 1 4) (proposals.Plain (codes "put x 7")) ∷ entry 5 1 (key 1 1 5) (proposals.Plain (codes "put x 2")) ∷ [])) ∷
+    post 1 2 1 (bodies.Append 0 0 1 (entry 1 1 no_key proposals.Blank ∷ entry 2 1 (key 1 1 3) (proposals.Plain (codes "put x 4")) ∷ entry 3 1 (key 2 1 1) (proposals.Plain (codes "put x 9")) ∷ entry 4 1 (key 1 1 4) (proposals.Plain (codes "put x 7")) ∷ entry 5 1 (key 1 1 5) (proposals.Plain (codes "put x 2")) ∷ entry 6 1 (key 1 1 6) (proposals.Plain (codes "put x 3")) ∷ [])) ∷ post 1 3 1 (bodies.Append 1 1 1 (entry 2 1 (key 1 1 3) (proposals.Plain (codes "put x 4")) ∷ entry 3 1 (key 2 1 1) (proposals.Plain (codes "put x 9")) ∷ entry 4 1 (key 1 1 4) (proposals.Plain (codes "put x 7")) ∷ entry 5 1 (key 1 1 5) (proposals.Plain (codes "put x 2")) ∷ entry 6 1 (key 1 1 6) (proposals.Plain (codes "put x 3")) ∷ [])) ∷
+    post 1 4 1 (bodies.Append 2 1 1 (entry 3 1 (key 2 1 1) (proposals.Plain (codes "put x 9")) ∷ entry 4 1 (key 1 1 4) (proposals.Plain (codes "put x 7")) ∷ entry 5 1 (key 1 1 5) (proposals.Plain (codes "put x 2")) ∷ entry 6 1 (key 1 1 6) (proposals.Plain (codes "put x 3")) ∷ [])) ∷ post 1 5 1 (bodies.Append 1 1 1 (entry 2 1 (key 1 1 3) (proposals.Plain (codes "put x 4")) ∷ entry 3 1 (key 2 1 1) (proposals.Plain (codes "put x 9")) ∷ entry 4 1 (key 1 1 4) (proposals.Plain (codes "put x 7")) ∷ entry 5 1 (key 1 1 5) (proposals.Plain (codes "put x 2")) ∷ entry 6 1 (key 1 1 6) (proposals.Plain (codes "put x 3")) ∷ [])) ∷
+    post 1 2 1 (bodies.Append 0 0 1 (entry 1 1 no_key proposals.Blank ∷ entry 2 1 (key 1 1 3) (proposals.Plain (codes "put x 4")) ∷ entry 3 1 (key 2 1 1) (proposals.Plain (codes "put x 9")) ∷ entry 4 1 (key 1 1 4) (proposals.Plain (codes "put x 7")) ∷ entry 5 1 (key 1 1 5) (proposals.Plain (codes "put x 2")) ∷ entry 6 1 (key 1 1 6) (proposals.Plain (codes "put x 3")) ∷ [])) ∷ post 5 1 1 (bodies.AppendReply true 4) ∷
+    post 5 1 1 (bodies.AppendReply true 5) ∷ post 5 1 1 (bodies.AppendReply true 6) ∷
+    post 4 1 1 (bodies.BeatReply 2) ∷ post 4 1 1 (bodies.BeatReply 2) ∷
+    post 4 1 1 (bodies.BeatReply 3) ∷ post 4 1 1 (bodies.AppendReply true 4) ∷
+    post 4 1 1 (bodies.AppendReply true 1) ∷ post 4 1 1 (bodies.AppendReply true 6) ∷
+    post 1 3 0 (bodies.ReadAnswer (key 3 1 4) 1) ∷ post 1 5 1 (bodies.Append 1 1 1 (entry 2 1 (key 1 1 3) (proposals.Plain (codes "put x 4")) ∷ entry 3 1 (key 2 1 1) (proposals.Plain (codes "put x 9")) ∷ entry 4 1 (key 1 1 4) (proposals.Plain (codes "put x 7")) ∷ entry 5 1 (key 1 1 5) (proposals.Plain (codes "put x 2")) ∷ entry 6 1 (key 1 1 6) (proposals.Plain (codes "put x 3")) ∷ [])) ∷
+    post 1 2 1 (bodies.Append 0 0 1 (entry 1 1 no_key proposals.Blank ∷ entry 2 1 (key 1 1 3) (proposals.Plain (codes "put x 4")) ∷ entry 3 1 (key 2 1 1) (proposals.Plain (codes "put x 9")) ∷ entry 4 1 (key 1 1 4) (proposals.Plain (codes "put x 7")) ∷ entry 5 1 (key 1 1 5) (proposals.Plain (codes "put x 2")) ∷ entry 6 1 (key 1 1 6) (proposals.Plain (codes "put x 3")) ∷ [])) ∷ post 1 2 1 (bodies.Append 0 0 1 (entry 1 1 no_key proposals.Blank ∷ entry 2 1 (key 1 1 3) (proposals.Plain (codes "put x 4")) ∷ entry 3 1 (key 2 1 1) (proposals.Plain (codes "put x 9")) ∷ entry 4 1 (key 1 1 4) (proposals.Plain (codes "put x 7")) ∷ entry 5 1 (key 1 1 5) (proposals.Plain (codes "put x 2")) ∷ entry 6 1 (key 1 1 6) (proposals.Plain (codes "put x 3")) ∷ [])) ∷
+    post 1 2 1 (bodies.Beat 0 5) ∷ post 1 3 1 (bodies.Beat 1 5) ∷
+    post 1 4 1 (bodies.Beat 1 5) ∷ post 1 5 1 (bodies.Beat 1 5) ∷
+    post 1 2 1 (bodies.Append 0 0 1 (entry 1 1 no_key proposals.Blank ∷ entry 2 1 (key 1 1 3) (proposals.Plain (codes "put x 4")) ∷ entry 3 1 (key 2 1 1) (proposals.Plain (codes "put x 9")) ∷ entry 4 1 (key 1 1 4) (proposals.Plain (codes "put x 7")) ∷ entry 5 1 (key 1 1 5) (proposals.Plain (codes "put x 2")) ∷ entry 6 1 (key 1 1 6) (proposals.Plain (codes "put x 3")) ∷ entry 7 1 (key 1 1 7) (proposals.Plain (codes "put x 3")) ∷ [])) ∷ post 1 3 1 (bodies.Append 1 1 1 (entry 2 1 (key 1 1 3) (proposals.Plain (codes "put x 4")) ∷ entry 3 1 (key 2 1 1) (proposals.Plain (codes "put x 9")) ∷ entry 4 1 (key 1 1 4) (proposals.Plain (codes "put x 7")) ∷ entry 5 1 (key 1 1 5) (proposals.Plain (codes "put x 2")) ∷ entry 6 1 (key 1 1 6) (proposals.Plain (codes "put x 3")) ∷ entry 7 1 (key 1 1 7) (proposals.Plain (codes "put x 3")) ∷ [])) ∷
+    post 1 4 1 (bodies.Append 2 1 1 (entry 3 1 (key 2 1 1) (proposals.Plain (codes "put x 9")) ∷ entry 4 1 (key 1 1 4) (proposals.Plain (codes "put x 7")) ∷ entry 5 1 (key 1 1 5) (proposals.Plain (codes "put x 2")) ∷ entry 6 1 (key 1 1 6) (proposals.Plain (codes "put x 3")) ∷ entry 7 1 (key 1 1 7) (proposals.Plain (codes "put x 3")) ∷ [])) ∷ post 1 5 1 (bodies.Append 1 1 1 (entry 2 1 (key 1 1 3) (proposals.Plain (codes "put x 4")) ∷ entry 3 1 (key 2 1 1) (proposals.Plain (codes "put x 9")) ∷ entry 4 1 (key 1 1 4) (proposals.Plain (codes "put x 7")) ∷ entry 5 1 (key 1 1 5) (proposals.Plain (codes "put x 2")) ∷ entry 6 1 (key 1 1 6) (proposals.Plain (codes "put x 3")) ∷ entry 7 1 (key 1 1 7) (proposals.Plain (codes "put x 3")) ∷ [])) ∷
+    post 1 2 1 (bodies.Append 0 0 1 (entry 1 1 no_key proposals.Blank ∷ entry 2 1 (key 1 1 3) (proposals.Plain (codes "put x 4")) ∷ entry 3 1 (key 2 1 1) (proposals.Plain (codes "put x 9")) ∷ entry 4 1 (key 1 1 4) (proposals.Plain (codes "put x 7")) ∷ entry 5 1 (key 1 1 5) (proposals.Plain (codes "put x 2")) ∷ entry 6 1 (key 1 1 6) (proposals.Plain (codes "put x 3")) ∷ entry 7 1 (key 1 1 7) (proposals.Plain (codes "put x 3")) ∷ entry 8 1 (key 1 1 8) (proposals.Plain (codes "put x 8")) ∷ [])) ∷ post 1 3 1 (bodies.Append 1 1 1 (entry 2 1 (key 1 1 3) (proposals.Plain (codes "put x 4")) ∷ entry 3 1 (key 2 1 1) (proposals.Plain (codes "put x 9")) ∷ entry 4 1 (key 1 1 4) (proposals.Plain (codes "put x 7")) ∷ entry 5 1 (key 1 1 5) (proposals.Plain (codes "put x 2")) ∷ entry 6 1 (key 1 1 6) (proposals.Plain (codes "put x 3")) ∷ entry 7 1 (key 1 1 7) (proposals.Plain (codes "put x 3")) ∷ entry 8 1 (key 1 1 8) (proposals.Plain (codes "put x 8")) ∷ [])) ∷
+    post 1 4 1 (bodies.Append 2 1 1 (entry 3 1 (key 2 1 1) (proposals.Plain (codes "put x 9")) ∷ entry 4 1 (key 1 1 4) (proposals.Plain (codes "put x 7")) ∷ entry 5 1 (key 1 1 5) (proposals.Plain (codes "put x 2")) ∷ entry 6 1 (key 1 1 6) (proposals.Plain (codes "put x 3")) ∷ entry 7 1 (key 1 1 7) (proposals.Plain (codes "put x 3")) ∷ entry 8 1 (key 1 1 8) (proposals.Plain (codes "put x 8")) ∷ [])) ∷ post 1 5 1 (bodies.Append 1 1 1 (entry 2 1 (key 1 1 3) (proposals.Plain (codes "put x 4")) ∷ entry 3 1 (key 2 1 1) (proposals.Plain (codes "put x 9")) ∷ entry 4 1 (key 1 1 4) (proposals.Plain (codes "put x 7")) ∷ entry 5 1 (key 1 1 5) (proposals.Plain (codes "put x 2")) ∷ entry 6 1 (key 1 1 6) (proposals.Plain (codes "put x 3")) ∷ entry 7 1 (key 1 1 7) (proposals.Plain (codes "put x 3")) ∷ entry 8 1 (key 1 1 8) (proposals.Plain (codes "put x 8")) ∷ [])) ∷
+    post 1 5 1 (bodies.Append 6 1 2 (entry 7 1 (key 1 1 7) (proposals.Plain (codes "put x 3")) ∷ entry 8 1 (key 1 1 8) (proposals.Plain (codes "put x 8")) ∷ [])) ∷ post 4 1 2 (bodies.Vote 6 1) ∷
+    post 4 2 2 (bodies.Vote 6 1) ∷ post 4 3 2 (bodies.Vote 6 1) ∷
+    post 4 5 2 (bodies.Vote 6 1) ∷ post 1 3 1 (bodies.SnapChunk 2 1 1 1 16 (1 ∷ 2 ∷ 3 ∷ [])) ∷
+    post 1 5 1 (bodies.Append 6 1 2 (entry 7 1 (key 1 1 7) (proposals.Plain (codes "put x 3")) ∷ entry 8 1 (key 1 1 8) (proposals.Plain (codes "put x 8")) ∷ [])) ∷ post 1 5 1 (bodies.Append 6 1 2 (entry 7 1 (key 1 1 7) (proposals.Plain (codes "put x 3")) ∷ entry 8 1 (key 1 1 8) (proposals.Plain (codes "put x 8")) ∷ [])) ∷
+    post 1 2 1 (bodies.Append 0 0 2 (entry 1 1 no_key proposals.Blank ∷ entry 2 1 (key 1 1 3) (proposals.Plain (codes "put x 4")) ∷ entry 3 1 (key 2 1 1) (proposals.Plain (codes "put x 9")) ∷ entry 4 1 (key 1 1 4) (proposals.Plain (codes "put x 7")) ∷ entry 5 1 (key 1 1 5) (proposals.Plain (codes "put x 2")) ∷ entry 6 1 (key 1 1 6) (proposals.Plain (codes "put x 3")) ∷ entry 7 1 (key 1 1 7) (proposals.Plain (codes "put x 3")) ∷ entry 8 1 (key 1 1 8) (proposals.Plain (codes "put x 8")) ∷ entry 9 1 (key 1 1 9) (proposals.Plain (codes "put x 3")) ∷ [])) ∷ post 1 3 1 (bodies.Append 1 1 2 (entry 2 1 (key 1 1 3) (proposals.Plain (codes "put x 4")) ∷ entry 3 1 (key 2 1 1) (proposals.Plain (codes "put x 9")) ∷ entry 4 1 (key 1 1 4) (proposals.Plain (codes "put x 7")) ∷ entry 5 1 (key 1 1 5) (proposals.Plain (codes "put x 2")) ∷ entry 6 1 (key 1 1 6) (proposals.Plain (codes "put x 3")) ∷ entry 7 1 (key 1 1 7) (proposals.Plain (codes "put x 3")) ∷ entry 8 1 (key 1 1 8) (proposals.Plain (codes "put x 8")) ∷ entry 9 1 (key 1 1 9) (proposals.Plain (codes "put x 3")) ∷ [])) ∷
+    post 1 4 1 (bodies.Append 2 1 2 (entry 3 1 (key 2 1 1) (proposals.Plain (codes "put x 9")) ∷ entry 4 1 (key 1 1 4) (proposals.Plain (codes "put x 7")) ∷ entry 5 1 (key 1 1 5) (proposals.Plain (codes "put x 2")) ∷ entry 6 1 (key 1 1 6) (proposals.Plain (codes "put x 3")) ∷ entry 7 1 (key 1 1 7) (proposals.Plain (codes "put x 3")) ∷ entry 8 1 (key 1 1 8) (proposals.Plain (codes "put x 8")) ∷ entry 9 1 (key 1 1 9) (proposals.Plain (codes "put x 3")) ∷ [])) ∷ post 1 5 1 (bodies.Append 6 1 2 (entry 7 1 (key 1 1 7) (proposals.Plain (codes "put x 3")) ∷ entry 8 1 (key 1 1 8) (proposals.Plain (codes "put x 8")) ∷ entry 9 1 (key 1 1 9) (proposals.Plain (codes "put x 3")) ∷ [])) ∷
+    post 1 2 1 (bodies.Append 0 0 2 (entry 1 1 no_key proposals.Blank ∷ entry 2 1 (key 1 1 3) (proposals.Plain (codes "put x 4")) ∷ entry 3 1 (key 2 1 1) (proposals.Plain (codes "put x 9")) ∷ entry 4 1 (key 1 1 4) (proposals.Plain (codes "put x 7")) ∷ entry 5 1 (key 1 1 5) (proposals.Plain (codes "put x 2")) ∷ entry 6 1 (key 1 1 6) (proposals.Plain (codes "put x 3")) ∷ entry 7 1 (key 1 1 7) (proposals.Plain (codes "put x 3")) ∷ entry 8 1 (key 1 1 8) (proposals.Plain (codes "put x 8")) ∷ entry 9 1 (key 1 1 9) (proposals.Plain (codes "put x 3")) ∷ entry 10 1 (key 1 1 10) (proposals.Plain (codes "put x 6")) ∷ [])) ∷ post 1 3 1 (bodies.Append 1 1 2 (entry 2 1 (key 1 1 3) (proposals.Plain (codes "put x 4")) ∷ entry 3 1 (key 2 1 1) (proposals.Plain (codes "put x 9")) ∷ entry 4 1 (key 1 1 4) (proposals.Plain (codes "put x 7")) ∷ entry 5 1 (key 1 1 5) (proposals.Plain (codes "put x 2")) ∷ entry 6 1 (key 1 1 6) (proposals.Plain (codes "put x 3")) ∷ entry 7 1 (key 1 1 7) (proposals.Plain (codes "put x 3")) ∷ entry 8 1 (key 1 1 8) (proposals.Plain (codes "put x 8")) ∷ entry 9 1 (key 1 1 9) (proposals.Plain (codes "put x 3")) ∷ entry 10 1 (key 1 1 10) (proposals.Plain (codes "put x 6")) ∷ [])) ∷
+    post 1 4 1 (bodies.Append 2 1 2 (entry 3 1 (key 2 1 1) (proposals.Plain (codes "put x 9")) ∷ entry 4 1 (key 1 1 4) (proposals.Plain (codes "put x 7")) ∷ entry 5 1 (key 1 1 5) (proposals.Plain (codes "put x 2")) ∷ entry 6 1 (key 1 1 6) (proposals.Plain (codes "put x 3")) ∷ entry 7 1 (key 1 1 7) (proposals.Plain (codes "put x 3")) ∷ entry 8 1 (key 1 1 8) (proposals.Plain (codes "put x 8")) ∷ entry 9 1 (key 1 1 9) (proposals.Plain (codes "put x 3")) ∷ entry 10 1 (key 1 1 10) (proposals.Plain (codes "put x 6")) ∷ [])) ∷ post 1 5 1 (bodies.Append 6 1 2 (entry 7 1 (key 1 1 7) (proposals.Plain (codes "put x 3")) ∷ entry 8 1 (key 1 1 8) (proposals.Plain (codes "put x 8")) ∷ entry 9 1 (key 1 1 9) (proposals.Plain (codes "put x 3")) ∷ entry 10 1 (key 1 1 10) (proposals.Plain (codes "put x 6")) ∷ [])) ∷
+    post 1 4 1 (bodies.Append 6 1 6 (entry 7 1 (key 1 1 7) (proposals.Plain (codes "put x 3")) ∷ entry 8 1 (key 1 1 8) (proposals.Plain (codes "put x 8")) ∷ entry 9 1 (key 1 1 9) (proposals.Plain (codes "put x 3")) ∷ entry 10 1 (key 1 1 10) (proposals.Plain (codes "put x 6")) ∷ [])) ∷ post 1 2 1 (bodies.Append 0 0 6 (entry 1 1 no_key proposals.Blank ∷ entry 2 1 (key 1 1 3) (proposals.Plain (codes "put x 4")) ∷ entry 3 1 (key 2 1 1) (proposals.Plain (codes "put x 9")) ∷ entry 4 1 (key 1 1 4) (proposals.Plain (codes "put x 7")) ∷ entry 5 1 (key 1 1 5) (proposals.Plain (codes "put x 2")) ∷ entry 6 1 (key 1 1 6) (proposals.Plain (codes "put x 3")) ∷ entry 7 1 (key 1 1 7) (proposals.Plain (codes "put x 3")) ∷ entry 8 1 (key 1 1 8) (proposals.Plain (codes "put x 8")) ∷ entry 9 1 (key 1 1 9) (proposals.Plain (codes "put x 3")) ∷ entry 10 1 (key 1 1 10) (proposals.Plain (codes "put x 6")) ∷ entry 11 1 (key 1 1 11) (proposals.Plain (codes "put x 9")) ∷ [])) ∷
+    post 1 3 1 (bodies.Append 1 1 6 (entry 2 1 (key 1 1 3) (proposals.Plain (codes "put x 4")) ∷ entry 3 1 (key 2 1 1) (proposals.Plain (codes "put x 9")) ∷ entry 4 1 (key 1 1 4) (proposals.Plain (codes "put x 7")) ∷ entry 5 1 (key 1 1 5) (proposals.Plain (codes "put x 2")) ∷ entry 6 1 (key 1 1 6) (proposals.Plain (codes "put x 3")) ∷ entry 7 1 (key 1 1 7) (proposals.Plain (codes "put x 3")) ∷ entry 8 1 (key 1 1 8) (proposals.Plain (codes "put x 8")) ∷ entry 9 1 (key 1 1 9) (proposals.Plain (codes "put x 3")) ∷ entry 10 1 (key 1 1 10) (proposals.Plain (codes "put x 6")) ∷ entry 11 1 (key 1 1 11) (proposals.Plain (codes "put x 9")) ∷ [])) ∷ post 1 4 1 (bodies.Append 6 1 6 (entry 7 1 (key 1 1 7) (proposals.Plain (codes "put x 3")) ∷ entry 8 1 (key 1 1 8) (proposals.Plain (codes "put x 8")) ∷ entry 9 1 (key 1 1 9) (proposals.Plain (codes "put x 3")) ∷ entry 10 1 (key 1 1 10) (proposals.Plain (codes "put x 6")) ∷ entry 11 1 (key 1 1 11) (proposals.Plain (codes "put x 9")) ∷ [])) ∷
+    post 1 5 1 (bodies.Append 6 1 6 (entry 7 1 (key 1 1 7) (proposals.Plain (codes "put x 3")) ∷ entry 8 1 (key 1 1 8) (proposals.Plain (codes "put x 8")) ∷ entry 9 1 (key 1 1 9) (proposals.Plain (codes "put x 3")) ∷ entry 10 1 (key 1 1 10) (proposals.Plain (codes "put x 6")) ∷ entry 11 1 (key 1 1 11) (proposals.Plain (codes "put x 9")) ∷ [])) ∷ post 4 1 2 (bodies.AppendReply false 0) ∷
+    post 5 1 2 (bodies.Vote 6 1) ∷ post 5 2 2 (bodies.Vote 6 1) ∷
+    post 5 3 2 (bodies.Vote 6 1) ∷ post 5 4 2 (bodies.Vote 6 1) ∷
+    post 5 1 2 (bodies.AppendReply false 0) ∷ post 5 1 2 (bodies.AppendReply false 0) ∷
+    post 5 1 3 (bodies.Vote 6 1) ∷ post 5 2 3 (bodies.Vote 6 1) ∷
+    post 5 3 3 (bodies.Vote 6 1) ∷ post 5 4 3 (bodies.Vote 6 1) ∷
+    post 1 2 1 (bodies.Append 0 0 6 (entry 1 1 no_key proposals.Blank ∷ entry 2 1 (key 1 1 3) (proposals.Plain (codes "put x 4")) ∷ entry 3 1 (key 2 1 1) (proposals.Plain (codes "put x 9")) ∷ entry 4 1 (key 1 1 4) (proposals.Plain (codes "put x 7")) ∷ entry 5 1 (key 1 1 5) (proposals.Plain (codes "put x 2")) ∷ entry 6 1 (key 1 1 6) (proposals.Plain (codes "put x 3")) ∷ entry 7 1 (key 1 1 7) (proposals.Plain (codes "put x 3")) ∷ entry 8 1 (key 1 1 8) (proposals.Plain (codes "put x 8")) ∷ entry 9 1 (key 1 1 9) (proposals.Plain (codes "put x 3")) ∷ entry 10 1 (key 1 1 10) (proposals.Plain (codes "put x 6")) ∷ entry 11 1 (key 1 1 11) (proposals.Plain (codes "put x 9")) ∷ entry 12 1 (key 1 1 12) (proposals.Plain (codes "put x 6")) ∷ [])) ∷ post 1 3 1 (bodies.Append 1 1 6 (entry 2 1 (key 1 1 3) (proposals.Plain (codes "put x 4")) ∷ entry 3 1 (key 2 1 1) (proposals.Plain (codes "put x 9")) ∷ entry 4 1 (key 1 1 4) (proposals.Plain (codes "put x 7")) ∷ entry 5 1 (key 1 1 5) (proposals.Plain (codes "put x 2")) ∷ entry 6 1 (key 1 1 6) (proposals.Plain (codes "put x 3")) ∷ entry 7 1 (key 1 1 7) (proposals.Plain (codes "put x 3")) ∷ entry 8 1 (key 1 1 8) (proposals.Plain (codes "put x 8")) ∷ entry 9 1 (key 1 1 9) (proposals.Plain (codes "put x 3")) ∷ entry 10 1 (key 1 1 10) (proposals.Plain (codes "put x 6")) ∷ entry 11 1 (key 1 1 11) (proposals.Plain (codes "put x 9")) ∷ entry 12 1 (key 1 1 12) (proposals.Plain (codes "put x 6")) ∷ [])) ∷
+    post 1 4 1 (bodies.Append 6 1 6 (entry 7 1 (key 1 1 7) (proposals.Plain (codes "put x 3")) ∷ entry 8 1 (key 1 1 8) (proposals.Plain (codes "put x 8")) ∷ entry 9 1 (key 1 1 9) (proposals.Plain (codes "put x 3")) ∷ entry 10 1 (key 1 1 10) (proposals.Plain (codes "put x 6")) ∷ entry 11 1 (key 1 1 11) (proposals.Plain (codes "put x 9")) ∷ entry 12 1 (key 1 1 12) (proposals.Plain (codes "put x 6")) ∷ [])) ∷ post 1 5 1 (bodies.Append 6 1 6 (entry 7 1 (key 1 1 7) (proposals.Plain (codes "put x 3")) ∷ entry 8 1 (key 1 1 8) (proposals.Plain (codes "put x 8")) ∷ entry 9 1 (key 1 1 9) (proposals.Plain (codes "put x 3")) ∷ entry 10 1 (key 1 1 10) (proposals.Plain (codes "put x 6")) ∷ entry 11 1 (key 1 1 11) (proposals.Plain (codes "put x 9")) ∷ entry 12 1 (key 1 1 12) (proposals.Plain (codes "put x 6")) ∷ [])) ∷
+    post 1 2 1 (bodies.Beat 0 6) ∷ post 1 3 1 (bodies.Beat 1 6) ∷
+    post 1 4 1 (bodies.Beat 6 6) ∷ post 1 5 1 (bodies.Beat 6 6) ∷
+    post 5 1 3 (bodies.BeatReply 0) ∷ post 4 5 3 (bodies.VoteReply true) ∷
+    post 2 1 1 (bodies.AppendReply true 5) ∷ post 2 1 1 (bodies.BeatReply 4) ∷
+    post 2 5 2 (bodies.VoteReply true) ∷ post 2 5 2 (bodies.VoteReply true) ∷
+    post 2 5 2 (bodies.VoteReply true) ∷ post 2 1 3 (bodies.Vote 5 1) ∷
+    post 2 3 3 (bodies.Vote 5 1) ∷ post 2 4 3 (bodies.Vote 5 1) ∷
+    post 2 5 3 (bodies.Vote 5 1) ∷ post 5 2 3 (bodies.VoteReply false) ∷
+    post 3 1 2 (bodies.Vote 1 1) ∷ post 3 2 2 (bodies.Vote 1 1) ∷
+    post 3 4 2 (bodies.Vote 1 1) ∷ post 3 5 2 (bodies.Vote 1 1) ∷
+    post 4 2 3 (bodies.VoteReply false) ∷ post 5 3 3 (bodies.VoteReply false) ∷
+    post 2 1 4 (bodies.Vote 5 1) ∷ post 2 3 4 (bodies.Vote 5 1) ∷
+    post 2 4 4 (bodies.Vote 5 1) ∷ post 2 5 4 (bodies.Vote 5 1) ∷
+    post 2 3 4 (bodies.VoteReply false) ∷ post 3 1 3 (bodies.Vote 1 1) ∷
+    post 3 2 3 (bodies.Vote 1 1) ∷ post 3 4 3 (bodies.Vote 1 1) ∷
+    post 3 5 3 (bodies.Vote 1 1) ∷ post 3 2 3 (bodies.VoteReply false) ∷
+    post 1 3 3 (bodies.VoteReply false) ∷ post 1 3 3 (bodies.VoteReply false) ∷
+    post 4 1 4 (bodies.Vote 6 1) ∷ post 4 2 4 (bodies.Vote 6 1) ∷
+    post 4 3 4 (bodies.Vote 6 1) ∷ post 4 5 4 (bodies.Vote 6 1) ∷
+    post 4 3 4 (bodies.VoteReply false) ∷ post 4 2 4 (bodies.VoteReply false) ∷
+    post 4 3 4 (bodies.VoteReply false) ∷ post 3 1 4 (bodies.Vote 1 1) ∷
+    post 3 2 4 (bodies.Vote 1 1) ∷ post 3 4 4 (bodies.Vote 1 1) ∷
+    post 3 5 4 (bodies.Vote 1 1) ∷ post 3 4 4 (bodies.VoteReply false) ∷
+    post 3 1 5 (bodies.Vote 1 1) ∷ post 3 2 5 (bodies.Vote 1 1) ∷
+    post 3 4 5 (bodies.Vote 1 1) ∷ post 3 5 5 (bodies.Vote 1 1) ∷
+    post 1 3 4 (bodies.VoteReply false) ∷ post 1 2 5 (bodies.Vote 12 1) ∷
+    post 1 3 5 (bodies.Vote 12 1) ∷ post 1 4 5 (bodies.Vote 12 1) ∷
+    post 1 5 5 (bodies.Vote 12 1) ∷ post 4 1 5 (bodies.VoteReply true) ∷
+    post 4 1 6 (bodies.Vote 6 1) ∷ post 4 2 6 (bodies.Vote 6 1) ∷
+    post 4 3 6 (bodies.Vote 6 1) ∷ post 4 5 6 (bodies.Vote 6 1) ∷
+    post 4 1 6 (bodies.VoteReply false) ∷ post 5 1 5 (bodies.VoteReply true) ∷
+    post 3 4 6 (bodies.VoteReply true) ∷ post 3 1 6 (bodies.VoteReply false) ∷
+    post 5 4 6 (bodies.VoteReply true) ∷ post 5 4 6 (bodies.VoteReply true) ∷
     []

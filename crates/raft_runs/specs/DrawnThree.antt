@@ -4,7 +4,7 @@ use Rattle.std.specs.Prelude.{List, [], ◌∷◌, codes, true, false}
 use Rattle.host_ids.specs.declared.entry.Entry.{Entry}
 use Rattle.host_ids.specs.declared.proposal.Proposal.TheVariants as proposals
 use Rattle.wire_codec.specs.declared.envelope.Envelope.{Envelope}
-use Rattle.wire_codec.specs.declared.envelope.Body.TheVariants as kinds
+use Rattle.wire_codec.specs.declared.envelope.Body.TheVariants as bodies
 use Rattle.raft_model.specs.declared.event.LaneEvent.{LaneEvent}
 use Rattle.raft_model.specs.declared.event.LaneEvent.TheVariants as events
 use Rattle.raft_model.specs.declared.note.Note.{Note}
@@ -171,89 +171,89 @@ replicas_of =
 -- what was sent
 abbrev pub wire_of : List Envelope
 wire_of =
-    post 3 1 1 (kinds.Vote 0 0) ∷ post 3 2 1 (kinds.Vote 0 0) ∷
-    post 2 3 1 (kinds.VoteReply true) ∷ post 2 3 1 (kinds.VoteReply true) ∷
-    post 2 3 1 (kinds.VoteReply true) ∷ post 2 3 1 (kinds.VoteReply true) ∷
-    post 2 3 1 (kinds.VoteReply true) ∷ post 2 3 1 (kinds.VoteReply true) ∷
-    post 2 3 1 (kinds.VoteReply true) ∷ post 1 2 1 (kinds.Vote 0 0) ∷
-    post 1 3 1 (kinds.Vote 0 0) ∷ post 1 3 1 (kinds.VoteReply false) ∷
-    post 3 1 2 (kinds.Vote 0 0) ∷ post 3 2 2 (kinds.Vote 0 0) ∷
-    post 3 1 3 (kinds.Vote 0 0) ∷ post 3 2 3 (kinds.Vote 0 0) ∷
-    post 2 3 3 (kinds.VoteReply true) ∷ post 3 1 4 (kinds.Vote 0 0) ∷
-    post 3 2 4 (kinds.Vote 0 0) ∷ post 2 3 3 (kinds.VoteReply false) ∷
-    post 1 2 2 (kinds.Vote 0 0) ∷ post 1 3 2 (kinds.Vote 0 0) ∷
-    post 2 1 3 (kinds.VoteReply false) ∷ post 3 1 4 (kinds.VoteReply false) ∷
-    post 3 1 4 (kinds.VoteReply false) ∷ post 3 1 4 (kinds.VoteReply false) ∷
-    post 1 2 5 (kinds.Vote 0 0) ∷ post 1 3 5 (kinds.Vote 0 0) ∷
-    post 2 1 5 (kinds.VoteReply true) ∷ post 2 1 5 (kinds.VoteReply true) ∷
-    post 2 1 5 (kinds.VoteReply true) ∷ post 1 2 5 (kinds.Append 0 0 0 (entry 1 5 no_key proposals.Blank ∷ [])) ∷
-    post 1 3 5 (kinds.Append 0 0 0 (entry 1 5 no_key proposals.Blank ∷ [])) ∷ post 2 3 5 (kinds.VoteReply false) ∷
-    post 1 2 5 (kinds.Append 0 0 0 (entry 1 5 no_key proposals.Blank ∷ entry 2 5 (key 1 1 2) (proposals.Plain (codes "put x 8")) ∷ [])) ∷ post 1 3 5 (kinds.Append 0 0 0 (entry 1 5 no_key proposals.Blank ∷ entry 2 5 (key 1 1 2) (proposals.Plain (codes "put x 8")) ∷ [])) ∷
-    post 1 2 5 (kinds.Append 0 0 0 (entry 1 5 no_key proposals.Blank ∷ entry 2 5 (key 1 1 2) (proposals.Plain (codes "put x 8")) ∷ entry 3 5 (key 1 1 3) (proposals.Plain (codes "put x 0")) ∷ [])) ∷ post 1 3 5 (kinds.Append 0 0 0 (entry 1 5 no_key proposals.Blank ∷ entry 2 5 (key 1 1 2) (proposals.Plain (codes "put x 8")) ∷ entry 3 5 (key 1 1 3) (proposals.Plain (codes "put x 0")) ∷ [])) ∷
-    post 2 1 5 (kinds.AppendReply true 1) ∷ post 2 1 0 (kinds.ReadAsk (key 2 1 4)) ∷
-    post 1 2 5 (kinds.Append 1 5 1 (entry 2 5 (key 1 1 2) (proposals.Plain (codes "put x 8")) ∷ entry 3 5 (key 1 1 3) (proposals.Plain (codes "put x 0")) ∷ [])) ∷ post 1 2 5 (kinds.Append 1 5 1 (entry 2 5 (key 1 1 2) (proposals.Plain (codes "put x 8")) ∷ entry 3 5 (key 1 1 3) (proposals.Plain (codes "put x 0")) ∷ [])) ∷
-    post 1 2 5 (kinds.Beat 1 1) ∷ post 1 3 5 (kinds.Beat 0 1) ∷
-    post 2 1 5 (kinds.AppendReply true 3) ∷ post 2 1 5 (kinds.BeatReply 1) ∷
-    post 1 2 5 (kinds.Append 1 5 1 (entry 2 5 (key 1 1 2) (proposals.Plain (codes "put x 8")) ∷ entry 3 5 (key 1 1 3) (proposals.Plain (codes "put x 0")) ∷ entry 4 5 (key 1 1 4) (proposals.Plain (codes "put x 9")) ∷ [])) ∷ post 3 1 5 (kinds.AppendReply true 3) ∷
-    post 3 1 5 (kinds.AppendReply true 2) ∷ post 3 1 0 (kinds.ReadAsk (key 3 2 1)) ∷
-    post 3 1 5 (kinds.AppendReply true 2) ∷ post 1 2 5 (kinds.Beat 1 2) ∷
-    post 1 3 5 (kinds.Beat 0 2) ∷ post 3 1 5 (kinds.AppendReply true 3) ∷
-    post 3 1 5 (kinds.AppendReply true 2) ∷ post 3 1 6 (kinds.Vote 3 5) ∷
-    post 3 2 6 (kinds.Vote 3 5) ∷ post 1 2 5 (kinds.Append 1 5 1 (entry 2 5 (key 1 1 2) (proposals.Plain (codes "put x 8")) ∷ entry 3 5 (key 1 1 3) (proposals.Plain (codes "put x 0")) ∷ entry 4 5 (key 1 1 4) (proposals.Plain (codes "put x 9")) ∷ entry 5 5 (key 1 1 6) (proposals.Plain (codes "put x 2")) ∷ [])) ∷
-    post 1 2 5 (kinds.Append 1 5 1 (entry 2 5 (key 1 1 2) (proposals.Plain (codes "put x 8")) ∷ entry 3 5 (key 1 1 3) (proposals.Plain (codes "put x 0")) ∷ entry 4 5 (key 1 1 4) (proposals.Plain (codes "put x 9")) ∷ entry 5 5 (key 1 1 6) (proposals.Plain (codes "put x 2")) ∷ entry 6 5 (key 1 1 7) (proposals.Plain (codes "put x 2")) ∷ [])) ∷ post 2 1 6 (kinds.Vote 3 5) ∷
-    post 2 3 6 (kinds.Vote 3 5) ∷ post 2 1 6 (kinds.BeatReply 0) ∷
-    post 2 3 6 (kinds.VoteReply false) ∷ post 2 1 6 (kinds.BeatReply 0) ∷
-    post 2 1 6 (kinds.AppendReply false 0) ∷ post 2 3 6 (kinds.VoteReply false) ∷
-    post 2 1 6 (kinds.AppendReply false 0) ∷ post 1 3 5 (kinds.Append 2 5 2 (entry 3 5 (key 1 1 3) (proposals.Plain (codes "put x 0")) ∷ entry 4 5 (key 1 1 4) (proposals.Plain (codes "put x 9")) ∷ entry 5 5 (key 1 1 6) (proposals.Plain (codes "put x 2")) ∷ entry 6 5 (key 1 1 7) (proposals.Plain (codes "put x 2")) ∷ [])) ∷
-    post 1 3 5 (kinds.Append 3 5 3 (entry 4 5 (key 1 1 4) (proposals.Plain (codes "put x 9")) ∷ entry 5 5 (key 1 1 6) (proposals.Plain (codes "put x 2")) ∷ entry 6 5 (key 1 1 7) (proposals.Plain (codes "put x 2")) ∷ [])) ∷ post 1 2 5 (kinds.Append 1 5 3 (entry 2 5 (key 1 1 2) (proposals.Plain (codes "put x 8")) ∷ entry 3 5 (key 1 1 3) (proposals.Plain (codes "put x 0")) ∷ entry 4 5 (key 1 1 4) (proposals.Plain (codes "put x 9")) ∷ entry 5 5 (key 1 1 6) (proposals.Plain (codes "put x 2")) ∷ entry 6 5 (key 1 1 7) (proposals.Plain (codes "put x 2")) ∷ entry 7 5 (key 1 1 8) (proposals.Plain (codes "put x 8")) ∷ [])) ∷
-    post 1 3 5 (kinds.Append 3 5 3 (entry 4 5 (key 1 1 4) (proposals.Plain (codes "put x 9")) ∷ entry 5 5 (key 1 1 6) (proposals.Plain (codes "put x 2")) ∷ entry 6 5 (key 1 1 7) (proposals.Plain (codes "put x 2")) ∷ entry 7 5 (key 1 1 8) (proposals.Plain (codes "put x 8")) ∷ [])) ∷ post 1 2 5 (kinds.Beat 1 3) ∷
-    post 1 3 5 (kinds.Beat 3 3) ∷ post 1 2 5 (kinds.Beat 1 4) ∷
-    post 1 3 5 (kinds.Beat 3 4) ∷ post 1 3 5 (kinds.Append 3 5 3 (entry 4 5 (key 1 1 4) (proposals.Plain (codes "put x 9")) ∷ entry 5 5 (key 1 1 6) (proposals.Plain (codes "put x 2")) ∷ entry 6 5 (key 1 1 7) (proposals.Plain (codes "put x 2")) ∷ entry 7 5 (key 1 1 8) (proposals.Plain (codes "put x 8")) ∷ [])) ∷
-    post 1 2 5 (kinds.Beat 1 5) ∷ post 1 3 5 (kinds.Beat 3 5) ∷
-    post 2 1 6 (kinds.AppendReply false 0) ∷ post 2 1 6 (kinds.AppendReply false 0) ∷
-    post 3 1 7 (kinds.Vote 3 5) ∷ post 3 2 7 (kinds.Vote 3 5) ∷
-    post 3 1 7 (kinds.BeatReply 0) ∷ post 3 1 7 (kinds.AppendReply false 0) ∷
-    post 2 1 7 (kinds.Vote 3 5) ∷ post 2 3 7 (kinds.Vote 3 5) ∷
-    post 2 3 7 (kinds.VoteReply false) ∷ post 1 2 5 (kinds.Append 1 5 3 (entry 2 5 (key 1 1 2) (proposals.Plain (codes "put x 8")) ∷ entry 3 5 (key 1 1 3) (proposals.Plain (codes "put x 0")) ∷ entry 4 5 (key 1 1 4) (proposals.Plain (codes "put x 9")) ∷ entry 5 5 (key 1 1 6) (proposals.Plain (codes "put x 2")) ∷ entry 6 5 (key 1 1 7) (proposals.Plain (codes "put x 2")) ∷ entry 7 5 (key 1 1 8) (proposals.Plain (codes "put x 8")) ∷ entry 8 5 (key 1 1 11) (proposals.Plain (codes "put x 5")) ∷ [])) ∷
-    post 1 3 5 (kinds.Append 3 5 3 (entry 4 5 (key 1 1 4) (proposals.Plain (codes "put x 9")) ∷ entry 5 5 (key 1 1 6) (proposals.Plain (codes "put x 2")) ∷ entry 6 5 (key 1 1 7) (proposals.Plain (codes "put x 2")) ∷ entry 7 5 (key 1 1 8) (proposals.Plain (codes "put x 8")) ∷ entry 8 5 (key 1 1 11) (proposals.Plain (codes "put x 5")) ∷ [])) ∷ post 1 2 5 (kinds.Append 1 5 3 (entry 2 5 (key 1 1 2) (proposals.Plain (codes "put x 8")) ∷ entry 3 5 (key 1 1 3) (proposals.Plain (codes "put x 0")) ∷ entry 4 5 (key 1 1 4) (proposals.Plain (codes "put x 9")) ∷ entry 5 5 (key 1 1 6) (proposals.Plain (codes "put x 2")) ∷ entry 6 5 (key 1 1 7) (proposals.Plain (codes "put x 2")) ∷ entry 7 5 (key 1 1 8) (proposals.Plain (codes "put x 8")) ∷ entry 8 5 (key 1 1 11) (proposals.Plain (codes "put x 5")) ∷ [])) ∷
-    post 1 2 5 (kinds.Append 1 5 3 (entry 2 5 (key 1 1 2) (proposals.Plain (codes "put x 8")) ∷ entry 3 5 (key 1 1 3) (proposals.Plain (codes "put x 0")) ∷ entry 4 5 (key 1 1 4) (proposals.Plain (codes "put x 9")) ∷ entry 5 5 (key 1 1 6) (proposals.Plain (codes "put x 2")) ∷ entry 6 5 (key 1 1 7) (proposals.Plain (codes "put x 2")) ∷ entry 7 5 (key 1 1 8) (proposals.Plain (codes "put x 8")) ∷ entry 8 5 (key 1 1 11) (proposals.Plain (codes "put x 5")) ∷ entry 9 5 (key 1 1 12) (proposals.Plain (codes "put x 3")) ∷ [])) ∷ post 1 3 5 (kinds.Append 3 5 3 (entry 4 5 (key 1 1 4) (proposals.Plain (codes "put x 9")) ∷ entry 5 5 (key 1 1 6) (proposals.Plain (codes "put x 2")) ∷ entry 6 5 (key 1 1 7) (proposals.Plain (codes "put x 2")) ∷ entry 7 5 (key 1 1 8) (proposals.Plain (codes "put x 8")) ∷ entry 8 5 (key 1 1 11) (proposals.Plain (codes "put x 5")) ∷ entry 9 5 (key 1 1 12) (proposals.Plain (codes "put x 3")) ∷ [])) ∷
-    post 1 2 6 (kinds.VoteReply false) ∷ post 3 1 7 (kinds.AppendReply false 0) ∷
-    post 2 1 7 (kinds.AppendReply false 0) ∷ post 1 3 7 (kinds.VoteReply false) ∷
-    post 2 1 7 (kinds.AppendReply false 0) ∷ post 2 1 7 (kinds.AppendReply false 0) ∷
-    post 3 1 7 (kinds.AppendReply false 0) ∷ post 3 1 8 (kinds.Vote 3 5) ∷
-    post 3 2 8 (kinds.Vote 3 5) ∷ post 2 3 8 (kinds.VoteReply true) ∷
-    post 2 3 8 (kinds.VoteReply true) ∷ post 1 2 8 (kinds.Vote 9 5) ∷
-    post 1 3 8 (kinds.Vote 9 5) ∷ post 1 3 8 (kinds.VoteReply false) ∷
-    post 2 3 8 (kinds.VoteReply true) ∷ post 2 1 8 (kinds.VoteReply false) ∷
-    post 3 1 8 (kinds.Append 3 5 0 (entry 4 8 no_key proposals.Blank ∷ [])) ∷ post 3 2 8 (kinds.Append 3 5 0 (entry 4 8 no_key proposals.Blank ∷ [])) ∷
-    post 1 2 9 (kinds.Vote 9 5) ∷ post 1 3 9 (kinds.Vote 9 5) ∷
-    post 1 2 10 (kinds.Vote 9 5) ∷ post 1 3 10 (kinds.Vote 9 5) ∷
-    post 2 3 8 (kinds.AppendReply true 4) ∷ post 2 1 10 (kinds.VoteReply false) ∷
-    post 2 3 10 (kinds.AppendReply false 0) ∷ post 2 1 11 (kinds.Vote 4 8) ∷
-    post 2 3 11 (kinds.Vote 4 8) ∷ post 2 1 11 (kinds.VoteReply false) ∷
-    post 1 2 11 (kinds.VoteReply true) ∷ post 1 2 11 (kinds.VoteReply true) ∷
-    post 1 2 11 (kinds.VoteReply true) ∷ post 1 2 11 (kinds.VoteReply true) ∷
-    post 1 2 11 (kinds.VoteReply true) ∷ post 2 1 11 (kinds.Append 4 8 1 (entry 5 11 no_key proposals.Blank ∷ [])) ∷
-    post 2 3 11 (kinds.Append 4 8 1 (entry 5 11 no_key proposals.Blank ∷ [])) ∷ post 2 1 11 (kinds.Append 4 8 1 (entry 5 11 no_key proposals.Blank ∷ entry 6 11 (key 2 1 13) (proposals.Plain (codes "put x 9")) ∷ [])) ∷
-    post 2 3 11 (kinds.Append 4 8 1 (entry 5 11 no_key proposals.Blank ∷ entry 6 11 (key 2 1 13) (proposals.Plain (codes "put x 9")) ∷ [])) ∷ post 2 1 11 (kinds.Append 4 8 1 (entry 5 11 no_key proposals.Blank ∷ entry 6 11 (key 2 1 13) (proposals.Plain (codes "put x 9")) ∷ entry 7 11 (key 2 1 14) (proposals.Plain (codes "put x 5")) ∷ [])) ∷
-    post 2 3 11 (kinds.Append 4 8 1 (entry 5 11 no_key proposals.Blank ∷ entry 6 11 (key 2 1 13) (proposals.Plain (codes "put x 9")) ∷ entry 7 11 (key 2 1 14) (proposals.Plain (codes "put x 5")) ∷ [])) ∷ post 2 1 11 (kinds.Append 4 8 1 (entry 5 11 no_key proposals.Blank ∷ entry 6 11 (key 2 1 13) (proposals.Plain (codes "put x 9")) ∷ entry 7 11 (key 2 1 14) (proposals.Plain (codes "put x 5")) ∷ entry 8 11 (key 2 1 15) (proposals.Plain (codes "put x 9")) ∷ [])) ∷
-    post 2 3 11 (kinds.Append 4 8 1 (entry 5 11 no_key proposals.Blank ∷ entry 6 11 (key 2 1 13) (proposals.Plain (codes "put x 9")) ∷ entry 7 11 (key 2 1 14) (proposals.Plain (codes "put x 5")) ∷ entry 8 11 (key 2 1 15) (proposals.Plain (codes "put x 9")) ∷ [])) ∷ post 1 2 11 (kinds.AppendReply false 3) ∷
-    post 1 2 11 (kinds.AppendReply false 3) ∷ post 2 1 11 (kinds.Append 4 8 1 (entry 5 11 no_key proposals.Blank ∷ entry 6 11 (key 2 1 13) (proposals.Plain (codes "put x 9")) ∷ entry 7 11 (key 2 1 14) (proposals.Plain (codes "put x 5")) ∷ entry 8 11 (key 2 1 15) (proposals.Plain (codes "put x 9")) ∷ entry 9 11 (key 2 1 16) (proposals.Plain (codes "put x 7")) ∷ [])) ∷
-    post 2 3 11 (kinds.Append 4 8 1 (entry 5 11 no_key proposals.Blank ∷ entry 6 11 (key 2 1 13) (proposals.Plain (codes "put x 9")) ∷ entry 7 11 (key 2 1 14) (proposals.Plain (codes "put x 5")) ∷ entry 8 11 (key 2 1 15) (proposals.Plain (codes "put x 9")) ∷ entry 9 11 (key 2 1 16) (proposals.Plain (codes "put x 7")) ∷ [])) ∷ post 2 1 11 (kinds.Beat 0 1) ∷
-    post 2 3 11 (kinds.Beat 0 1) ∷ post 2 1 11 (kinds.Beat 0 2) ∷
-    post 2 3 11 (kinds.Beat 0 2) ∷ post 2 3 11 (kinds.SnapChunk 1 5 1 1 16 (1 ∷ 2 ∷ 3 ∷ [])) ∷
-    post 3 2 11 (kinds.SnapReply 1 2 true) ∷ post 1 2 11 (kinds.BeatReply 1) ∷
-    post 1 2 11 (kinds.AppendReply false 3) ∷ post 2 1 11 (kinds.Append 4 8 1 (entry 5 11 no_key proposals.Blank ∷ entry 6 11 (key 2 1 13) (proposals.Plain (codes "put x 9")) ∷ entry 7 11 (key 2 1 14) (proposals.Plain (codes "put x 5")) ∷ entry 8 11 (key 2 1 15) (proposals.Plain (codes "put x 9")) ∷ entry 9 11 (key 2 1 16) (proposals.Plain (codes "put x 7")) ∷ entry 10 11 (key 2 1 17) (proposals.Plain (codes "put x 5")) ∷ [])) ∷
-    post 2 3 11 (kinds.Append 4 8 1 (entry 5 11 no_key proposals.Blank ∷ entry 6 11 (key 2 1 13) (proposals.Plain (codes "put x 9")) ∷ entry 7 11 (key 2 1 14) (proposals.Plain (codes "put x 5")) ∷ entry 8 11 (key 2 1 15) (proposals.Plain (codes "put x 9")) ∷ entry 9 11 (key 2 1 16) (proposals.Plain (codes "put x 7")) ∷ entry 10 11 (key 2 1 17) (proposals.Plain (codes "put x 5")) ∷ [])) ∷ post 2 1 11 (kinds.Append 4 8 1 (entry 5 11 no_key proposals.Blank ∷ entry 6 11 (key 2 1 13) (proposals.Plain (codes "put x 9")) ∷ entry 7 11 (key 2 1 14) (proposals.Plain (codes "put x 5")) ∷ entry 8 11 (key 2 1 15) (proposals.Plain (codes "put x 9")) ∷ entry 9 11 (key 2 1 16) (proposals.Plain (codes "put x 7")) ∷ entry 10 11 (key 2 1 17) (proposals.Plain (codes "put x 5")) ∷ entry 11 11 (key 2 1 18) (proposals.Plain (codes "put x 4")) ∷ [])) ∷
-    post 2 3 11 (kinds.Append 4 8 1 (entry 5 11 no_key proposals.Blank ∷ entry 6 11 (key 2 1 13) (proposals.Plain (codes "put x 9")) ∷ entry 7 11 (key 2 1 14) (proposals.Plain (codes "put x 5")) ∷ entry 8 11 (key 2 1 15) (proposals.Plain (codes "put x 9")) ∷ entry 9 11 (key 2 1 16) (proposals.Plain (codes "put x 7")) ∷ entry 10 11 (key 2 1 17) (proposals.Plain (codes "put x 5")) ∷ entry 11 11 (key 2 1 18) (proposals.Plain (codes "put x 4")) ∷ [])) ∷ post 2 1 11 (kinds.Append 3 5 1 (entry 4 8 no_key proposals.Blank ∷ entry 5 11 no_key proposals.Blank ∷ entry 6 11 (key 2 1 13) (proposals.Plain (codes "put x 9")) ∷ entry 7 11 (key 2 1 14) (proposals.Plain (codes "put x 5")) ∷ entry 8 11 (key 2 1 15) (proposals.Plain (codes "put x 9")) ∷ entry 9 11 (key 2 1 16) (proposals.Plain (codes "put x 7")) ∷ entry 10 11 (key 2 1 17) (proposals.Plain (codes "put x 5")) ∷ entry 11 11 (key 2 1 18) (proposals.Plain (codes "put x 4")) ∷ [])) ∷
-    post 2 1 11 (kinds.Append 3 5 1 (entry 4 8 no_key proposals.Blank ∷ entry 5 11 no_key proposals.Blank ∷ entry 6 11 (key 2 1 13) (proposals.Plain (codes "put x 9")) ∷ entry 7 11 (key 2 1 14) (proposals.Plain (codes "put x 5")) ∷ entry 8 11 (key 2 1 15) (proposals.Plain (codes "put x 9")) ∷ entry 9 11 (key 2 1 16) (proposals.Plain (codes "put x 7")) ∷ entry 10 11 (key 2 1 17) (proposals.Plain (codes "put x 5")) ∷ entry 11 11 (key 2 1 18) (proposals.Plain (codes "put x 4")) ∷ [])) ∷ post 2 1 11 (kinds.Append 3 5 1 (entry 4 8 no_key proposals.Blank ∷ entry 5 11 no_key proposals.Blank ∷ entry 6 11 (key 2 1 13) (proposals.Plain (codes "put x 9")) ∷ entry 7 11 (key 2 1 14) (proposals.Plain (codes "put x 5")) ∷ entry 8 11 (key 2 1 15) (proposals.Plain (codes "put x 9")) ∷ entry 9 11 (key 2 1 16) (proposals.Plain (codes "put x 7")) ∷ entry 10 11 (key 2 1 17) (proposals.Plain (codes "put x 5")) ∷ entry 11 11 (key 2 1 18) (proposals.Plain (codes "put x 4")) ∷ [])) ∷
-    post 2 1 11 (kinds.Append 3 5 1 (entry 4 8 no_key proposals.Blank ∷ entry 5 11 no_key proposals.Blank ∷ entry 6 11 (key 2 1 13) (proposals.Plain (codes "put x 9")) ∷ entry 7 11 (key 2 1 14) (proposals.Plain (codes "put x 5")) ∷ entry 8 11 (key 2 1 15) (proposals.Plain (codes "put x 9")) ∷ entry 9 11 (key 2 1 16) (proposals.Plain (codes "put x 7")) ∷ entry 10 11 (key 2 1 17) (proposals.Plain (codes "put x 5")) ∷ entry 11 11 (key 2 1 18) (proposals.Plain (codes "put x 4")) ∷ [])) ∷ post 1 2 11 (kinds.AppendReply true 11) ∷
-    post 1 2 11 (kinds.AppendReply true 11) ∷ post 1 2 11 (kinds.AppendReply true 10) ∷
-    post 1 2 12 (kinds.Vote 11 11) ∷ post 1 3 12 (kinds.Vote 11 11) ∷
-    post 1 2 12 (kinds.AppendReply false 0) ∷ post 1 2 12 (kinds.AppendReply false 0) ∷
-    post 1 2 12 (kinds.AppendReply false 0) ∷ post 1 2 12 (kinds.AppendReply false 0) ∷
-    post 1 2 12 (kinds.AppendReply false 0) ∷ post 1 2 12 (kinds.AppendReply false 0) ∷
-    post 2 1 11 (kinds.Append 3 5 1 (entry 4 8 no_key proposals.Blank ∷ entry 5 11 no_key proposals.Blank ∷ entry 6 11 (key 2 1 13) (proposals.Plain (codes "put x 9")) ∷ entry 7 11 (key 2 1 14) (proposals.Plain (codes "put x 5")) ∷ entry 8 11 (key 2 1 15) (proposals.Plain (codes "put x 9")) ∷ entry 9 11 (key 2 1 16) (proposals.Plain (codes "put x 7")) ∷ entry 10 11 (key 2 1 17) (proposals.Plain (codes "put x 5")) ∷ entry 11 11 (key 2 1 18) (proposals.Plain (codes "put x 4")) ∷ entry 12 11 (key 2 1 19) (proposals.Plain (codes "put x 4")) ∷ [])) ∷ post 2 3 11 (kinds.Append 4 8 1 (entry 5 11 no_key proposals.Blank ∷ entry 6 11 (key 2 1 13) (proposals.Plain (codes "put x 9")) ∷ entry 7 11 (key 2 1 14) (proposals.Plain (codes "put x 5")) ∷ entry 8 11 (key 2 1 15) (proposals.Plain (codes "put x 9")) ∷ entry 9 11 (key 2 1 16) (proposals.Plain (codes "put x 7")) ∷ entry 10 11 (key 2 1 17) (proposals.Plain (codes "put x 5")) ∷ entry 11 11 (key 2 1 18) (proposals.Plain (codes "put x 4")) ∷ entry 12 11 (key 2 1 19) (proposals.Plain (codes "put x 4")) ∷ [])) ∷
-    post 2 1 11 (kinds.Append 11 11 11 (entry 12 11 (key 2 1 19) (proposals.Plain (codes "put x 4")) ∷ [])) ∷ post 2 1 12 (kinds.VoteReply false) ∷
-    post 1 2 12 (kinds.AppendReply false 0) ∷
+    post 3 1 1 (bodies.Vote 0 0) ∷ post 3 2 1 (bodies.Vote 0 0) ∷
+    post 2 3 1 (bodies.VoteReply true) ∷ post 2 3 1 (bodies.VoteReply true) ∷
+    post 2 3 1 (bodies.VoteReply true) ∷ post 2 3 1 (bodies.VoteReply true) ∷
+    post 2 3 1 (bodies.VoteReply true) ∷ post 2 3 1 (bodies.VoteReply true) ∷
+    post 2 3 1 (bodies.VoteReply true) ∷ post 1 2 1 (bodies.Vote 0 0) ∷
+    post 1 3 1 (bodies.Vote 0 0) ∷ post 1 3 1 (bodies.VoteReply false) ∷
+    post 3 1 2 (bodies.Vote 0 0) ∷ post 3 2 2 (bodies.Vote 0 0) ∷
+    post 3 1 3 (bodies.Vote 0 0) ∷ post 3 2 3 (bodies.Vote 0 0) ∷
+    post 2 3 3 (bodies.VoteReply true) ∷ post 3 1 4 (bodies.Vote 0 0) ∷
+    post 3 2 4 (bodies.Vote 0 0) ∷ post 2 3 3 (bodies.VoteReply false) ∷
+    post 1 2 2 (bodies.Vote 0 0) ∷ post 1 3 2 (bodies.Vote 0 0) ∷
+    post 2 1 3 (bodies.VoteReply false) ∷ post 3 1 4 (bodies.VoteReply false) ∷
+    post 3 1 4 (bodies.VoteReply false) ∷ post 3 1 4 (bodies.VoteReply false) ∷
+    post 1 2 5 (bodies.Vote 0 0) ∷ post 1 3 5 (bodies.Vote 0 0) ∷
+    post 2 1 5 (bodies.VoteReply true) ∷ post 2 1 5 (bodies.VoteReply true) ∷
+    post 2 1 5 (bodies.VoteReply true) ∷ post 1 2 5 (bodies.Append 0 0 0 (entry 1 5 no_key proposals.Blank ∷ [])) ∷
+    post 1 3 5 (bodies.Append 0 0 0 (entry 1 5 no_key proposals.Blank ∷ [])) ∷ post 2 3 5 (bodies.VoteReply false) ∷
+    post 1 2 5 (bodies.Append 0 0 0 (entry 1 5 no_key proposals.Blank ∷ entry 2 5 (key 1 1 2) (proposals.Plain (codes "put x 8")) ∷ [])) ∷ post 1 3 5 (bodies.Append 0 0 0 (entry 1 5 no_key proposals.Blank ∷ entry 2 5 (key 1 1 2) (proposals.Plain (codes "put x 8")) ∷ [])) ∷
+    post 1 2 5 (bodies.Append 0 0 0 (entry 1 5 no_key proposals.Blank ∷ entry 2 5 (key 1 1 2) (proposals.Plain (codes "put x 8")) ∷ entry 3 5 (key 1 1 3) (proposals.Plain (codes "put x 0")) ∷ [])) ∷ post 1 3 5 (bodies.Append 0 0 0 (entry 1 5 no_key proposals.Blank ∷ entry 2 5 (key 1 1 2) (proposals.Plain (codes "put x 8")) ∷ entry 3 5 (key 1 1 3) (proposals.Plain (codes "put x 0")) ∷ [])) ∷
+    post 2 1 5 (bodies.AppendReply true 1) ∷ post 2 1 0 (bodies.ReadAsk (key 2 1 4)) ∷
+    post 1 2 5 (bodies.Append 1 5 1 (entry 2 5 (key 1 1 2) (proposals.Plain (codes "put x 8")) ∷ entry 3 5 (key 1 1 3) (proposals.Plain (codes "put x 0")) ∷ [])) ∷ post 1 2 5 (bodies.Append 1 5 1 (entry 2 5 (key 1 1 2) (proposals.Plain (codes "put x 8")) ∷ entry 3 5 (key 1 1 3) (proposals.Plain (codes "put x 0")) ∷ [])) ∷
+    post 1 2 5 (bodies.Beat 1 1) ∷ post 1 3 5 (bodies.Beat 0 1) ∷
+    post 2 1 5 (bodies.AppendReply true 3) ∷ post 2 1 5 (bodies.BeatReply 1) ∷
+    post 1 2 5 (bodies.Append 1 5 1 (entry 2 5 (key 1 1 2) (proposals.Plain (codes "put x 8")) ∷ entry 3 5 (key 1 1 3) (proposals.Plain (codes "put x 0")) ∷ entry 4 5 (key 1 1 4) (proposals.Plain (codes "put x 9")) ∷ [])) ∷ post 3 1 5 (bodies.AppendReply true 3) ∷
+    post 3 1 5 (bodies.AppendReply true 2) ∷ post 3 1 0 (bodies.ReadAsk (key 3 2 1)) ∷
+    post 3 1 5 (bodies.AppendReply true 2) ∷ post 1 2 5 (bodies.Beat 1 2) ∷
+    post 1 3 5 (bodies.Beat 0 2) ∷ post 3 1 5 (bodies.AppendReply true 3) ∷
+    post 3 1 5 (bodies.AppendReply true 2) ∷ post 3 1 6 (bodies.Vote 3 5) ∷
+    post 3 2 6 (bodies.Vote 3 5) ∷ post 1 2 5 (bodies.Append 1 5 1 (entry 2 5 (key 1 1 2) (proposals.Plain (codes "put x 8")) ∷ entry 3 5 (key 1 1 3) (proposals.Plain (codes "put x 0")) ∷ entry 4 5 (key 1 1 4) (proposals.Plain (codes "put x 9")) ∷ entry 5 5 (key 1 1 6) (proposals.Plain (codes "put x 2")) ∷ [])) ∷
+    post 1 2 5 (bodies.Append 1 5 1 (entry 2 5 (key 1 1 2) (proposals.Plain (codes "put x 8")) ∷ entry 3 5 (key 1 1 3) (proposals.Plain (codes "put x 0")) ∷ entry 4 5 (key 1 1 4) (proposals.Plain (codes "put x 9")) ∷ entry 5 5 (key 1 1 6) (proposals.Plain (codes "put x 2")) ∷ entry 6 5 (key 1 1 7) (proposals.Plain (codes "put x 2")) ∷ [])) ∷ post 2 1 6 (bodies.Vote 3 5) ∷
+    post 2 3 6 (bodies.Vote 3 5) ∷ post 2 1 6 (bodies.BeatReply 0) ∷
+    post 2 3 6 (bodies.VoteReply false) ∷ post 2 1 6 (bodies.BeatReply 0) ∷
+    post 2 1 6 (bodies.AppendReply false 0) ∷ post 2 3 6 (bodies.VoteReply false) ∷
+    post 2 1 6 (bodies.AppendReply false 0) ∷ post 1 3 5 (bodies.Append 2 5 2 (entry 3 5 (key 1 1 3) (proposals.Plain (codes "put x 0")) ∷ entry 4 5 (key 1 1 4) (proposals.Plain (codes "put x 9")) ∷ entry 5 5 (key 1 1 6) (proposals.Plain (codes "put x 2")) ∷ entry 6 5 (key 1 1 7) (proposals.Plain (codes "put x 2")) ∷ [])) ∷
+    post 1 3 5 (bodies.Append 3 5 3 (entry 4 5 (key 1 1 4) (proposals.Plain (codes "put x 9")) ∷ entry 5 5 (key 1 1 6) (proposals.Plain (codes "put x 2")) ∷ entry 6 5 (key 1 1 7) (proposals.Plain (codes "put x 2")) ∷ [])) ∷ post 1 2 5 (bodies.Append 1 5 3 (entry 2 5 (key 1 1 2) (proposals.Plain (codes "put x 8")) ∷ entry 3 5 (key 1 1 3) (proposals.Plain (codes "put x 0")) ∷ entry 4 5 (key 1 1 4) (proposals.Plain (codes "put x 9")) ∷ entry 5 5 (key 1 1 6) (proposals.Plain (codes "put x 2")) ∷ entry 6 5 (key 1 1 7) (proposals.Plain (codes "put x 2")) ∷ entry 7 5 (key 1 1 8) (proposals.Plain (codes "put x 8")) ∷ [])) ∷
+    post 1 3 5 (bodies.Append 3 5 3 (entry 4 5 (key 1 1 4) (proposals.Plain (codes "put x 9")) ∷ entry 5 5 (key 1 1 6) (proposals.Plain (codes "put x 2")) ∷ entry 6 5 (key 1 1 7) (proposals.Plain (codes "put x 2")) ∷ entry 7 5 (key 1 1 8) (proposals.Plain (codes "put x 8")) ∷ [])) ∷ post 1 2 5 (bodies.Beat 1 3) ∷
+    post 1 3 5 (bodies.Beat 3 3) ∷ post 1 2 5 (bodies.Beat 1 4) ∷
+    post 1 3 5 (bodies.Beat 3 4) ∷ post 1 3 5 (bodies.Append 3 5 3 (entry 4 5 (key 1 1 4) (proposals.Plain (codes "put x 9")) ∷ entry 5 5 (key 1 1 6) (proposals.Plain (codes "put x 2")) ∷ entry 6 5 (key 1 1 7) (proposals.Plain (codes "put x 2")) ∷ entry 7 5 (key 1 1 8) (proposals.Plain (codes "put x 8")) ∷ [])) ∷
+    post 1 2 5 (bodies.Beat 1 5) ∷ post 1 3 5 (bodies.Beat 3 5) ∷
+    post 2 1 6 (bodies.AppendReply false 0) ∷ post 2 1 6 (bodies.AppendReply false 0) ∷
+    post 3 1 7 (bodies.Vote 3 5) ∷ post 3 2 7 (bodies.Vote 3 5) ∷
+    post 3 1 7 (bodies.BeatReply 0) ∷ post 3 1 7 (bodies.AppendReply false 0) ∷
+    post 2 1 7 (bodies.Vote 3 5) ∷ post 2 3 7 (bodies.Vote 3 5) ∷
+    post 2 3 7 (bodies.VoteReply false) ∷ post 1 2 5 (bodies.Append 1 5 3 (entry 2 5 (key 1 1 2) (proposals.Plain (codes "put x 8")) ∷ entry 3 5 (key 1 1 3) (proposals.Plain (codes "put x 0")) ∷ entry 4 5 (key 1 1 4) (proposals.Plain (codes "put x 9")) ∷ entry 5 5 (key 1 1 6) (proposals.Plain (codes "put x 2")) ∷ entry 6 5 (key 1 1 7) (proposals.Plain (codes "put x 2")) ∷ entry 7 5 (key 1 1 8) (proposals.Plain (codes "put x 8")) ∷ entry 8 5 (key 1 1 11) (proposals.Plain (codes "put x 5")) ∷ [])) ∷
+    post 1 3 5 (bodies.Append 3 5 3 (entry 4 5 (key 1 1 4) (proposals.Plain (codes "put x 9")) ∷ entry 5 5 (key 1 1 6) (proposals.Plain (codes "put x 2")) ∷ entry 6 5 (key 1 1 7) (proposals.Plain (codes "put x 2")) ∷ entry 7 5 (key 1 1 8) (proposals.Plain (codes "put x 8")) ∷ entry 8 5 (key 1 1 11) (proposals.Plain (codes "put x 5")) ∷ [])) ∷ post 1 2 5 (bodies.Append 1 5 3 (entry 2 5 (key 1 1 2) (proposals.Plain (codes "put x 8")) ∷ entry 3 5 (key 1 1 3) (proposals.Plain (codes "put x 0")) ∷ entry 4 5 (key 1 1 4) (proposals.Plain (codes "put x 9")) ∷ entry 5 5 (key 1 1 6) (proposals.Plain (codes "put x 2")) ∷ entry 6 5 (key 1 1 7) (proposals.Plain (codes "put x 2")) ∷ entry 7 5 (key 1 1 8) (proposals.Plain (codes "put x 8")) ∷ entry 8 5 (key 1 1 11) (proposals.Plain (codes "put x 5")) ∷ [])) ∷
+    post 1 2 5 (bodies.Append 1 5 3 (entry 2 5 (key 1 1 2) (proposals.Plain (codes "put x 8")) ∷ entry 3 5 (key 1 1 3) (proposals.Plain (codes "put x 0")) ∷ entry 4 5 (key 1 1 4) (proposals.Plain (codes "put x 9")) ∷ entry 5 5 (key 1 1 6) (proposals.Plain (codes "put x 2")) ∷ entry 6 5 (key 1 1 7) (proposals.Plain (codes "put x 2")) ∷ entry 7 5 (key 1 1 8) (proposals.Plain (codes "put x 8")) ∷ entry 8 5 (key 1 1 11) (proposals.Plain (codes "put x 5")) ∷ entry 9 5 (key 1 1 12) (proposals.Plain (codes "put x 3")) ∷ [])) ∷ post 1 3 5 (bodies.Append 3 5 3 (entry 4 5 (key 1 1 4) (proposals.Plain (codes "put x 9")) ∷ entry 5 5 (key 1 1 6) (proposals.Plain (codes "put x 2")) ∷ entry 6 5 (key 1 1 7) (proposals.Plain (codes "put x 2")) ∷ entry 7 5 (key 1 1 8) (proposals.Plain (codes "put x 8")) ∷ entry 8 5 (key 1 1 11) (proposals.Plain (codes "put x 5")) ∷ entry 9 5 (key 1 1 12) (proposals.Plain (codes "put x 3")) ∷ [])) ∷
+    post 1 2 6 (bodies.VoteReply false) ∷ post 3 1 7 (bodies.AppendReply false 0) ∷
+    post 2 1 7 (bodies.AppendReply false 0) ∷ post 1 3 7 (bodies.VoteReply false) ∷
+    post 2 1 7 (bodies.AppendReply false 0) ∷ post 2 1 7 (bodies.AppendReply false 0) ∷
+    post 3 1 7 (bodies.AppendReply false 0) ∷ post 3 1 8 (bodies.Vote 3 5) ∷
+    post 3 2 8 (bodies.Vote 3 5) ∷ post 2 3 8 (bodies.VoteReply true) ∷
+    post 2 3 8 (bodies.VoteReply true) ∷ post 1 2 8 (bodies.Vote 9 5) ∷
+    post 1 3 8 (bodies.Vote 9 5) ∷ post 1 3 8 (bodies.VoteReply false) ∷
+    post 2 3 8 (bodies.VoteReply true) ∷ post 2 1 8 (bodies.VoteReply false) ∷
+    post 3 1 8 (bodies.Append 3 5 0 (entry 4 8 no_key proposals.Blank ∷ [])) ∷ post 3 2 8 (bodies.Append 3 5 0 (entry 4 8 no_key proposals.Blank ∷ [])) ∷
+    post 1 2 9 (bodies.Vote 9 5) ∷ post 1 3 9 (bodies.Vote 9 5) ∷
+    post 1 2 10 (bodies.Vote 9 5) ∷ post 1 3 10 (bodies.Vote 9 5) ∷
+    post 2 3 8 (bodies.AppendReply true 4) ∷ post 2 1 10 (bodies.VoteReply false) ∷
+    post 2 3 10 (bodies.AppendReply false 0) ∷ post 2 1 11 (bodies.Vote 4 8) ∷
+    post 2 3 11 (bodies.Vote 4 8) ∷ post 2 1 11 (bodies.VoteReply false) ∷
+    post 1 2 11 (bodies.VoteReply true) ∷ post 1 2 11 (bodies.VoteReply true) ∷
+    post 1 2 11 (bodies.VoteReply true) ∷ post 1 2 11 (bodies.VoteReply true) ∷
+    post 1 2 11 (bodies.VoteReply true) ∷ post 2 1 11 (bodies.Append 4 8 1 (entry 5 11 no_key proposals.Blank ∷ [])) ∷
+    post 2 3 11 (bodies.Append 4 8 1 (entry 5 11 no_key proposals.Blank ∷ [])) ∷ post 2 1 11 (bodies.Append 4 8 1 (entry 5 11 no_key proposals.Blank ∷ entry 6 11 (key 2 1 13) (proposals.Plain (codes "put x 9")) ∷ [])) ∷
+    post 2 3 11 (bodies.Append 4 8 1 (entry 5 11 no_key proposals.Blank ∷ entry 6 11 (key 2 1 13) (proposals.Plain (codes "put x 9")) ∷ [])) ∷ post 2 1 11 (bodies.Append 4 8 1 (entry 5 11 no_key proposals.Blank ∷ entry 6 11 (key 2 1 13) (proposals.Plain (codes "put x 9")) ∷ entry 7 11 (key 2 1 14) (proposals.Plain (codes "put x 5")) ∷ [])) ∷
+    post 2 3 11 (bodies.Append 4 8 1 (entry 5 11 no_key proposals.Blank ∷ entry 6 11 (key 2 1 13) (proposals.Plain (codes "put x 9")) ∷ entry 7 11 (key 2 1 14) (proposals.Plain (codes "put x 5")) ∷ [])) ∷ post 2 1 11 (bodies.Append 4 8 1 (entry 5 11 no_key proposals.Blank ∷ entry 6 11 (key 2 1 13) (proposals.Plain (codes "put x 9")) ∷ entry 7 11 (key 2 1 14) (proposals.Plain (codes "put x 5")) ∷ entry 8 11 (key 2 1 15) (proposals.Plain (codes "put x 9")) ∷ [])) ∷
+    post 2 3 11 (bodies.Append 4 8 1 (entry 5 11 no_key proposals.Blank ∷ entry 6 11 (key 2 1 13) (proposals.Plain (codes "put x 9")) ∷ entry 7 11 (key 2 1 14) (proposals.Plain (codes "put x 5")) ∷ entry 8 11 (key 2 1 15) (proposals.Plain (codes "put x 9")) ∷ [])) ∷ post 1 2 11 (bodies.AppendReply false 3) ∷
+    post 1 2 11 (bodies.AppendReply false 3) ∷ post 2 1 11 (bodies.Append 4 8 1 (entry 5 11 no_key proposals.Blank ∷ entry 6 11 (key 2 1 13) (proposals.Plain (codes "put x 9")) ∷ entry 7 11 (key 2 1 14) (proposals.Plain (codes "put x 5")) ∷ entry 8 11 (key 2 1 15) (proposals.Plain (codes "put x 9")) ∷ entry 9 11 (key 2 1 16) (proposals.Plain (codes "put x 7")) ∷ [])) ∷
+    post 2 3 11 (bodies.Append 4 8 1 (entry 5 11 no_key proposals.Blank ∷ entry 6 11 (key 2 1 13) (proposals.Plain (codes "put x 9")) ∷ entry 7 11 (key 2 1 14) (proposals.Plain (codes "put x 5")) ∷ entry 8 11 (key 2 1 15) (proposals.Plain (codes "put x 9")) ∷ entry 9 11 (key 2 1 16) (proposals.Plain (codes "put x 7")) ∷ [])) ∷ post 2 1 11 (bodies.Beat 0 1) ∷
+    post 2 3 11 (bodies.Beat 0 1) ∷ post 2 1 11 (bodies.Beat 0 2) ∷
+    post 2 3 11 (bodies.Beat 0 2) ∷ post 2 3 11 (bodies.SnapChunk 1 5 1 1 16 (1 ∷ 2 ∷ 3 ∷ [])) ∷
+    post 3 2 11 (bodies.SnapReply 1 2 true) ∷ post 1 2 11 (bodies.BeatReply 1) ∷
+    post 1 2 11 (bodies.AppendReply false 3) ∷ post 2 1 11 (bodies.Append 4 8 1 (entry 5 11 no_key proposals.Blank ∷ entry 6 11 (key 2 1 13) (proposals.Plain (codes "put x 9")) ∷ entry 7 11 (key 2 1 14) (proposals.Plain (codes "put x 5")) ∷ entry 8 11 (key 2 1 15) (proposals.Plain (codes "put x 9")) ∷ entry 9 11 (key 2 1 16) (proposals.Plain (codes "put x 7")) ∷ entry 10 11 (key 2 1 17) (proposals.Plain (codes "put x 5")) ∷ [])) ∷
+    post 2 3 11 (bodies.Append 4 8 1 (entry 5 11 no_key proposals.Blank ∷ entry 6 11 (key 2 1 13) (proposals.Plain (codes "put x 9")) ∷ entry 7 11 (key 2 1 14) (proposals.Plain (codes "put x 5")) ∷ entry 8 11 (key 2 1 15) (proposals.Plain (codes "put x 9")) ∷ entry 9 11 (key 2 1 16) (proposals.Plain (codes "put x 7")) ∷ entry 10 11 (key 2 1 17) (proposals.Plain (codes "put x 5")) ∷ [])) ∷ post 2 1 11 (bodies.Append 4 8 1 (entry 5 11 no_key proposals.Blank ∷ entry 6 11 (key 2 1 13) (proposals.Plain (codes "put x 9")) ∷ entry 7 11 (key 2 1 14) (proposals.Plain (codes "put x 5")) ∷ entry 8 11 (key 2 1 15) (proposals.Plain (codes "put x 9")) ∷ entry 9 11 (key 2 1 16) (proposals.Plain (codes "put x 7")) ∷ entry 10 11 (key 2 1 17) (proposals.Plain (codes "put x 5")) ∷ entry 11 11 (key 2 1 18) (proposals.Plain (codes "put x 4")) ∷ [])) ∷
+    post 2 3 11 (bodies.Append 4 8 1 (entry 5 11 no_key proposals.Blank ∷ entry 6 11 (key 2 1 13) (proposals.Plain (codes "put x 9")) ∷ entry 7 11 (key 2 1 14) (proposals.Plain (codes "put x 5")) ∷ entry 8 11 (key 2 1 15) (proposals.Plain (codes "put x 9")) ∷ entry 9 11 (key 2 1 16) (proposals.Plain (codes "put x 7")) ∷ entry 10 11 (key 2 1 17) (proposals.Plain (codes "put x 5")) ∷ entry 11 11 (key 2 1 18) (proposals.Plain (codes "put x 4")) ∷ [])) ∷ post 2 1 11 (bodies.Append 3 5 1 (entry 4 8 no_key proposals.Blank ∷ entry 5 11 no_key proposals.Blank ∷ entry 6 11 (key 2 1 13) (proposals.Plain (codes "put x 9")) ∷ entry 7 11 (key 2 1 14) (proposals.Plain (codes "put x 5")) ∷ entry 8 11 (key 2 1 15) (proposals.Plain (codes "put x 9")) ∷ entry 9 11 (key 2 1 16) (proposals.Plain (codes "put x 7")) ∷ entry 10 11 (key 2 1 17) (proposals.Plain (codes "put x 5")) ∷ entry 11 11 (key 2 1 18) (proposals.Plain (codes "put x 4")) ∷ [])) ∷
+    post 2 1 11 (bodies.Append 3 5 1 (entry 4 8 no_key proposals.Blank ∷ entry 5 11 no_key proposals.Blank ∷ entry 6 11 (key 2 1 13) (proposals.Plain (codes "put x 9")) ∷ entry 7 11 (key 2 1 14) (proposals.Plain (codes "put x 5")) ∷ entry 8 11 (key 2 1 15) (proposals.Plain (codes "put x 9")) ∷ entry 9 11 (key 2 1 16) (proposals.Plain (codes "put x 7")) ∷ entry 10 11 (key 2 1 17) (proposals.Plain (codes "put x 5")) ∷ entry 11 11 (key 2 1 18) (proposals.Plain (codes "put x 4")) ∷ [])) ∷ post 2 1 11 (bodies.Append 3 5 1 (entry 4 8 no_key proposals.Blank ∷ entry 5 11 no_key proposals.Blank ∷ entry 6 11 (key 2 1 13) (proposals.Plain (codes "put x 9")) ∷ entry 7 11 (key 2 1 14) (proposals.Plain (codes "put x 5")) ∷ entry 8 11 (key 2 1 15) (proposals.Plain (codes "put x 9")) ∷ entry 9 11 (key 2 1 16) (proposals.Plain (codes "put x 7")) ∷ entry 10 11 (key 2 1 17) (proposals.Plain (codes "put x 5")) ∷ entry 11 11 (key 2 1 18) (proposals.Plain (codes "put x 4")) ∷ [])) ∷
+    post 2 1 11 (bodies.Append 3 5 1 (entry 4 8 no_key proposals.Blank ∷ entry 5 11 no_key proposals.Blank ∷ entry 6 11 (key 2 1 13) (proposals.Plain (codes "put x 9")) ∷ entry 7 11 (key 2 1 14) (proposals.Plain (codes "put x 5")) ∷ entry 8 11 (key 2 1 15) (proposals.Plain (codes "put x 9")) ∷ entry 9 11 (key 2 1 16) (proposals.Plain (codes "put x 7")) ∷ entry 10 11 (key 2 1 17) (proposals.Plain (codes "put x 5")) ∷ entry 11 11 (key 2 1 18) (proposals.Plain (codes "put x 4")) ∷ [])) ∷ post 1 2 11 (bodies.AppendReply true 11) ∷
+    post 1 2 11 (bodies.AppendReply true 11) ∷ post 1 2 11 (bodies.AppendReply true 10) ∷
+    post 1 2 12 (bodies.Vote 11 11) ∷ post 1 3 12 (bodies.Vote 11 11) ∷
+    post 1 2 12 (bodies.AppendReply false 0) ∷ post 1 2 12 (bodies.AppendReply false 0) ∷
+    post 1 2 12 (bodies.AppendReply false 0) ∷ post 1 2 12 (bodies.AppendReply false 0) ∷
+    post 1 2 12 (bodies.AppendReply false 0) ∷ post 1 2 12 (bodies.AppendReply false 0) ∷
+    post 2 1 11 (bodies.Append 3 5 1 (entry 4 8 no_key proposals.Blank ∷ entry 5 11 no_key proposals.Blank ∷ entry 6 11 (key 2 1 13) (proposals.Plain (codes "put x 9")) ∷ entry 7 11 (key 2 1 14) (proposals.Plain (codes "put x 5")) ∷ entry 8 11 (key 2 1 15) (proposals.Plain (codes "put x 9")) ∷ entry 9 11 (key 2 1 16) (proposals.Plain (codes "put x 7")) ∷ entry 10 11 (key 2 1 17) (proposals.Plain (codes "put x 5")) ∷ entry 11 11 (key 2 1 18) (proposals.Plain (codes "put x 4")) ∷ entry 12 11 (key 2 1 19) (proposals.Plain (codes "put x 4")) ∷ [])) ∷ post 2 3 11 (bodies.Append 4 8 1 (entry 5 11 no_key proposals.Blank ∷ entry 6 11 (key 2 1 13) (proposals.Plain (codes "put x 9")) ∷ entry 7 11 (key 2 1 14) (proposals.Plain (codes "put x 5")) ∷ entry 8 11 (key 2 1 15) (proposals.Plain (codes "put x 9")) ∷ entry 9 11 (key 2 1 16) (proposals.Plain (codes "put x 7")) ∷ entry 10 11 (key 2 1 17) (proposals.Plain (codes "put x 5")) ∷ entry 11 11 (key 2 1 18) (proposals.Plain (codes "put x 4")) ∷ entry 12 11 (key 2 1 19) (proposals.Plain (codes "put x 4")) ∷ [])) ∷
+    post 2 1 11 (bodies.Append 11 11 11 (entry 12 11 (key 2 1 19) (proposals.Plain (codes "put x 4")) ∷ [])) ∷ post 2 1 12 (bodies.VoteReply false) ∷
+    post 1 2 12 (bodies.AppendReply false 0) ∷
     []

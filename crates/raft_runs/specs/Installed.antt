@@ -1,10 +1,10 @@
 -- Written by `python3 tools/raft_runs/write_runs.py`, and then laid out by `rt fmt`. Not to be edited by hand.
--- A host that comes back behind the front of the leader's log, and gets a snapshot in pieces that are repeated and turned around.
+-- A host that comes back with a log that ends below the front of the leader's, and gets a snapshot in pieces that are repeated and turned around.
 use Rattle.std.specs.Prelude.{List, [], ◌∷◌, codes, true, false}
 use Rattle.host_ids.specs.declared.entry.Entry.{Entry}
 use Rattle.host_ids.specs.declared.proposal.Proposal.TheVariants as proposals
 use Rattle.wire_codec.specs.declared.envelope.Envelope.{Envelope}
-use Rattle.wire_codec.specs.declared.envelope.Body.TheVariants as kinds
+use Rattle.wire_codec.specs.declared.envelope.Body.TheVariants as bodies
 use Rattle.raft_model.specs.declared.event.LaneEvent.{LaneEvent}
 use Rattle.raft_model.specs.declared.event.LaneEvent.TheVariants as events
 use Rattle.raft_model.specs.declared.note.Note.{Note}
@@ -66,17 +66,17 @@ replicas_of =
 -- what was sent
 abbrev pub wire_of : List Envelope
 wire_of =
-    post 1 2 1 (kinds.Vote 0 0) ∷ post 1 3 1 (kinds.Vote 0 0) ∷
-    post 2 1 1 (kinds.VoteReply true) ∷ post 3 1 1 (kinds.VoteReply true) ∷
-    post 1 2 1 (kinds.Append 0 0 0 (entry 1 1 no_key proposals.Blank ∷ [])) ∷ post 1 3 1 (kinds.Append 0 0 0 (entry 1 1 no_key proposals.Blank ∷ [])) ∷
-    post 2 1 1 (kinds.AppendReply true 1) ∷ post 3 1 1 (kinds.AppendReply true 1) ∷
-    post 1 2 1 (kinds.Append 1 1 1 (entry 2 1 (key 1 1 1) (proposals.Plain (codes "put x 1")) ∷ [])) ∷ post 1 3 1 (kinds.Append 1 1 1 (entry 2 1 (key 1 1 1) (proposals.Plain (codes "put x 1")) ∷ [])) ∷
-    post 2 1 1 (kinds.AppendReply true 2) ∷ post 1 2 1 (kinds.Beat 2 1) ∷
-    post 1 3 1 (kinds.Beat 1 1) ∷ post 2 1 1 (kinds.BeatReply 1) ∷
-    post 3 1 1 (kinds.BeatReply 1) ∷ post 1 3 1 (kinds.SnapChunk 2 1 1 3 16 (78 ∷ 72 ∷ 83 ∷ 49 ∷ 1 ∷ 1 ∷ 0 ∷ 0 ∷ 0 ∷ 0 ∷ 0 ∷ 0 ∷ 0 ∷ 2 ∷ 0 ∷ 0 ∷ [])) ∷
-    post 1 3 1 (kinds.SnapChunk 2 1 2 3 16 (0 ∷ 0 ∷ 0 ∷ 0 ∷ 0 ∷ 1 ∷ 0 ∷ 0 ∷ 0 ∷ 8 ∷ 0 ∷ 0 ∷ 16 ∷ 0 ∷ 0 ∷ 0 ∷ [])) ∷ post 1 3 1 (kinds.SnapChunk 2 1 3 3 16 (0 ∷ 0 ∷ 0 ∷ 0 ∷ 0 ∷ 10 ∷ 0 ∷ 0 ∷ 0 ∷ 1 ∷ 0 ∷ 1 ∷ 120 ∷ 0 ∷ 1 ∷ 49 ∷ [])) ∷
-    post 3 1 1 (kinds.SnapReply 2 1 false) ∷ post 3 1 1 (kinds.SnapReply 2 2 false) ∷
-    post 3 1 1 (kinds.SnapReply 2 2 false) ∷ post 3 1 1 (kinds.SnapReply 2 3 false) ∷
-    post 3 1 1 (kinds.SnapReply 2 2 false) ∷ post 3 1 1 (kinds.SnapReply 2 3 false) ∷
-    post 3 1 1 (kinds.SnapReply 2 4 true) ∷
+    post 1 2 1 (bodies.Vote 0 0) ∷ post 1 3 1 (bodies.Vote 0 0) ∷
+    post 2 1 1 (bodies.VoteReply true) ∷ post 3 1 1 (bodies.VoteReply true) ∷
+    post 1 2 1 (bodies.Append 0 0 0 (entry 1 1 no_key proposals.Blank ∷ [])) ∷ post 1 3 1 (bodies.Append 0 0 0 (entry 1 1 no_key proposals.Blank ∷ [])) ∷
+    post 2 1 1 (bodies.AppendReply true 1) ∷ post 3 1 1 (bodies.AppendReply true 1) ∷
+    post 1 2 1 (bodies.Append 1 1 1 (entry 2 1 (key 1 1 1) (proposals.Plain (codes "put x 1")) ∷ [])) ∷ post 1 3 1 (bodies.Append 1 1 1 (entry 2 1 (key 1 1 1) (proposals.Plain (codes "put x 1")) ∷ [])) ∷
+    post 2 1 1 (bodies.AppendReply true 2) ∷ post 1 2 1 (bodies.Beat 2 1) ∷
+    post 1 3 1 (bodies.Beat 1 1) ∷ post 2 1 1 (bodies.BeatReply 1) ∷
+    post 3 1 1 (bodies.BeatReply 1) ∷ post 1 3 1 (bodies.SnapChunk 2 1 1 3 16 (78 ∷ 72 ∷ 83 ∷ 49 ∷ 1 ∷ 1 ∷ 0 ∷ 0 ∷ 0 ∷ 0 ∷ 0 ∷ 0 ∷ 0 ∷ 2 ∷ 0 ∷ 0 ∷ [])) ∷
+    post 1 3 1 (bodies.SnapChunk 2 1 2 3 16 (0 ∷ 0 ∷ 0 ∷ 0 ∷ 0 ∷ 1 ∷ 0 ∷ 0 ∷ 0 ∷ 8 ∷ 0 ∷ 0 ∷ 16 ∷ 0 ∷ 0 ∷ 0 ∷ [])) ∷ post 1 3 1 (bodies.SnapChunk 2 1 3 3 16 (0 ∷ 0 ∷ 0 ∷ 0 ∷ 0 ∷ 10 ∷ 0 ∷ 0 ∷ 0 ∷ 1 ∷ 0 ∷ 1 ∷ 120 ∷ 0 ∷ 1 ∷ 49 ∷ [])) ∷
+    post 3 1 1 (bodies.SnapReply 2 1 false) ∷ post 3 1 1 (bodies.SnapReply 2 2 false) ∷
+    post 3 1 1 (bodies.SnapReply 2 2 false) ∷ post 3 1 1 (bodies.SnapReply 2 3 false) ∷
+    post 3 1 1 (bodies.SnapReply 2 2 false) ∷ post 3 1 1 (bodies.SnapReply 2 3 false) ∷
+    post 3 1 1 (bodies.SnapReply 2 4 true) ∷
     []

@@ -4,7 +4,7 @@ use Rattle.std.specs.Prelude.{List, [], ◌∷◌, codes, true}
 use Rattle.host_ids.specs.declared.entry.Entry.{Entry}
 use Rattle.host_ids.specs.declared.proposal.Proposal.TheVariants as proposals
 use Rattle.wire_codec.specs.declared.envelope.Envelope.{Envelope}
-use Rattle.wire_codec.specs.declared.envelope.Body.TheVariants as kinds
+use Rattle.wire_codec.specs.declared.envelope.Body.TheVariants as bodies
 use Rattle.raft_model.specs.declared.event.LaneEvent.{LaneEvent}
 use Rattle.raft_model.specs.declared.event.LaneEvent.TheVariants as events
 use Rattle.raft_model.specs.declared.note.Note.{Note}
@@ -68,17 +68,17 @@ replicas_of =
 -- what was sent
 abbrev pub wire_of : List Envelope
 wire_of =
-    post 1 2 1 (kinds.Vote 0 0) ∷ post 1 3 1 (kinds.Vote 0 0) ∷
-    post 2 1 1 (kinds.VoteReply true) ∷ post 3 1 1 (kinds.VoteReply true) ∷
-    post 1 2 1 (kinds.Append 0 0 0 (entry 1 1 no_key proposals.Blank ∷ [])) ∷ post 1 3 1 (kinds.Append 0 0 0 (entry 1 1 no_key proposals.Blank ∷ [])) ∷
-    post 2 1 1 (kinds.AppendReply true 1) ∷ post 3 1 1 (kinds.AppendReply true 1) ∷
-    post 2 1 0 (kinds.Propose (key 2 1 1) (proposals.Plain (codes "add n 7"))) ∷ post 1 2 1 (kinds.Append 1 1 1 (entry 2 1 (key 2 1 1) (proposals.Plain (codes "add n 7")) ∷ [])) ∷
-    post 1 3 1 (kinds.Append 1 1 1 (entry 2 1 (key 2 1 1) (proposals.Plain (codes "add n 7")) ∷ [])) ∷ post 1 2 1 (kinds.Append 1 1 1 (entry 2 1 (key 2 1 1) (proposals.Plain (codes "add n 7")) ∷ entry 3 1 (key 2 1 1) (proposals.Plain (codes "add n 7")) ∷ [])) ∷
-    post 1 3 1 (kinds.Append 1 1 1 (entry 2 1 (key 2 1 1) (proposals.Plain (codes "add n 7")) ∷ entry 3 1 (key 2 1 1) (proposals.Plain (codes "add n 7")) ∷ [])) ∷ post 2 1 1 (kinds.AppendReply true 2) ∷
-    post 3 1 1 (kinds.AppendReply true 2) ∷ post 1 2 1 (kinds.Append 2 1 2 (entry 3 1 (key 2 1 1) (proposals.Plain (codes "add n 7")) ∷ [])) ∷
-    post 1 3 1 (kinds.Append 2 1 2 (entry 3 1 (key 2 1 1) (proposals.Plain (codes "add n 7")) ∷ [])) ∷ post 2 1 1 (kinds.AppendReply true 3) ∷
-    post 3 1 1 (kinds.AppendReply true 3) ∷ post 2 1 1 (kinds.AppendReply true 3) ∷
-    post 3 1 1 (kinds.AppendReply true 3) ∷ post 1 2 1 (kinds.Beat 3 1) ∷
-    post 1 3 1 (kinds.Beat 3 1) ∷ post 2 1 1 (kinds.BeatReply 1) ∷
-    post 3 1 1 (kinds.BeatReply 1) ∷
+    post 1 2 1 (bodies.Vote 0 0) ∷ post 1 3 1 (bodies.Vote 0 0) ∷
+    post 2 1 1 (bodies.VoteReply true) ∷ post 3 1 1 (bodies.VoteReply true) ∷
+    post 1 2 1 (bodies.Append 0 0 0 (entry 1 1 no_key proposals.Blank ∷ [])) ∷ post 1 3 1 (bodies.Append 0 0 0 (entry 1 1 no_key proposals.Blank ∷ [])) ∷
+    post 2 1 1 (bodies.AppendReply true 1) ∷ post 3 1 1 (bodies.AppendReply true 1) ∷
+    post 2 1 0 (bodies.Propose (key 2 1 1) (proposals.Plain (codes "add n 7"))) ∷ post 1 2 1 (bodies.Append 1 1 1 (entry 2 1 (key 2 1 1) (proposals.Plain (codes "add n 7")) ∷ [])) ∷
+    post 1 3 1 (bodies.Append 1 1 1 (entry 2 1 (key 2 1 1) (proposals.Plain (codes "add n 7")) ∷ [])) ∷ post 1 2 1 (bodies.Append 1 1 1 (entry 2 1 (key 2 1 1) (proposals.Plain (codes "add n 7")) ∷ entry 3 1 (key 2 1 1) (proposals.Plain (codes "add n 7")) ∷ [])) ∷
+    post 1 3 1 (bodies.Append 1 1 1 (entry 2 1 (key 2 1 1) (proposals.Plain (codes "add n 7")) ∷ entry 3 1 (key 2 1 1) (proposals.Plain (codes "add n 7")) ∷ [])) ∷ post 2 1 1 (bodies.AppendReply true 2) ∷
+    post 3 1 1 (bodies.AppendReply true 2) ∷ post 1 2 1 (bodies.Append 2 1 2 (entry 3 1 (key 2 1 1) (proposals.Plain (codes "add n 7")) ∷ [])) ∷
+    post 1 3 1 (bodies.Append 2 1 2 (entry 3 1 (key 2 1 1) (proposals.Plain (codes "add n 7")) ∷ [])) ∷ post 2 1 1 (bodies.AppendReply true 3) ∷
+    post 3 1 1 (bodies.AppendReply true 3) ∷ post 2 1 1 (bodies.AppendReply true 3) ∷
+    post 3 1 1 (bodies.AppendReply true 3) ∷ post 1 2 1 (bodies.Beat 3 1) ∷
+    post 1 3 1 (bodies.Beat 3 1) ∷ post 2 1 1 (bodies.BeatReply 1) ∷
+    post 3 1 1 (bodies.BeatReply 1) ∷
     []

@@ -70,7 +70,8 @@ pub fn crashed_run()
     ensures sent { (run crashed.events_of crashed.begun).group.wire ≡ crashed.wire_of }
 {}
 
-/// Three voters: a host that comes back behind the front of the leader's log gets a snapshot.
+/// Three voters: a host that comes back with a log that ends below the front of the
+/// leader's log gets a snapshot.
 /// Source: this project's own.
 pub fn installed_run()
     ensures notes { (run installed.events_of installed.begun).notes ≡ installed.notes_of }

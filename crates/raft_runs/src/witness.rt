@@ -5,7 +5,7 @@
 //! (`specs/Witness/Sentences`), and the law says that it fails in a group that allowed events lead to.
 
 ghost use Rattle.std.specs.Prelude.{◌≡◌, [], ◌∷◌, ◌++◌, true, Some, slice_get};
-ghost use Rattle.wire_codec.specs.declared.envelope.Body.TheVariants as kinds;
+ghost use Rattle.wire_codec.specs.declared.envelope.Body.TheVariants as bodies;
 ghost use Rattle.raft_model.specs.declared.note.Note.TheVariants as notes;
 ghost use Rattle.raft_runs.specs.Followed as followed;
 ghost use Rattle.raft_runs.specs.Minority as minority;
@@ -84,7 +84,7 @@ pub fn install_resets_a_log()
     ensures before { terms (log_at (after starts.overtaken three) 1).entries ≡ 1 ∷ [] }
     ensures decided { terms (after starts.overtaken three).decided ≡ 2 ∷ [] }
     ensures now { log_at (after (starts.overtaken ++ starts.installs) three) 1 ≡ record { front = 1; front_term = 2; entries = [] } }
-    ensures answer { slice_get (after (starts.overtaken ++ starts.installs) three).wire 14 ≡ Some (post 1 2 2 (kinds.SnapReply 1 2 true)) }
+    ensures answer { slice_get (after (starts.overtaken ++ starts.installs) three).wire 14 ≡ Some (post 1 2 2 (bodies.SnapReply 1 2 true)) }
 {}
 
 /// A start with the mark of a snapshot that the saved log doesn't hold: the log gives way to the snapshot,
@@ -167,7 +167,7 @@ pub fn terms_may_fall_from_the_front()
 /// the leader that they answer. Source: this project's own.
 pub fn answers_need_not_be_led()
     ensures allowed { are_allowed three against.unled ≡ true }
-    ensures answer { slice_get (after against.unled three).wire 10 ≡ Some (post 2 1 2 (kinds.SnapReply 1 2 true)) }
+    ensures answer { slice_get (after against.unled three).wire 10 ≡ Some (post 2 1 2 (bodies.SnapReply 1 2 true)) }
     ensures fails { AnswersAreLed (run against.unled three) → ⊥ }
 {}
 

@@ -4,7 +4,7 @@ use Rattle.std.specs.Prelude.{◌≡◌, ◌≢◌, ◌⊎◌, ℕ, ◌+◌, ◌
 use Rattle.host_ids.specs.declared.entry.Entry.{Entry}
 use Rattle.wire_codec.specs.declared.envelope.Envelope.{Envelope}
 use Rattle.wire_codec.specs.declared.envelope.Body.{Body}
-use Rattle.wire_codec.specs.declared.envelope.Body.TheVariants as kinds
+use Rattle.wire_codec.specs.declared.envelope.Body.TheVariants as bodies
 use Rattle.raft_model.specs.Group.{term_of, is_decided}
 use Rattle.raft_safety.specs.History.{Reign, History, IsLed, Agree, HoldsUpTo, IsOld}
 use Rattle.raft_safety.specs.Replicas.{Stage, IsSecured}
@@ -47,17 +47,17 @@ pub record IsGrant (h : History) (from to t : ℕ) (x : Stage) : Type 0 where
 
 -- what an envelope tells, by its kind; a chunk is of a decided place, and a beat names no more than its addressee has answered
 abbrev pub Tells : History → List Entry → (ℕ → ℕ → ℕ → Type 0) → (ℕ → ℕ → ℕ) → ℕ → ℕ → ℕ → Body → Stage → Type 0
-Tells h d HasAnswer level from to t (kinds.Vote l lt) x = IsCampaign h from t l lt x
-Tells h d HasAnswer level from to t (kinds.VoteReply granted) x = granted ≡ true → IsGrant h from to t x
-Tells h d HasAnswer level from to t (kinds.Append prev pt c es) x = IsOfLeader h d from t prev pt c es
-Tells h d HasAnswer level from to t (kinds.AppendReply ok i) x = ok ≡ true → IsAnswer h d level from t i x
-Tells h d HasAnswer level from to t (kinds.Beat c round) x = IsOfLeader h d from t 0 0 c [] × ((c ≡ 0) ⊎ HasAnswer to t c)
-Tells h d HasAnswer level from to t (kinds.BeatReply round) x = Unit {0}
-Tells h d HasAnswer level from to t (kinds.SnapChunk i lt number count size bytes) x = is_decided d i lt ≡ true
-Tells h d HasAnswer level from to t (kinds.SnapReply i want whole) x = whole ≡ true → IsSnapAnswer h d level from t i x
-Tells h d HasAnswer level from to t (kinds.Propose key p) x = Unit {0}
-Tells h d HasAnswer level from to t (kinds.ReadAsk key) x = Unit {0}
-Tells h d HasAnswer level from to t (kinds.ReadAnswer key i) x = Unit {0}
+Tells h d HasAnswer level from to t (bodies.Vote l lt) x = IsCampaign h from t l lt x
+Tells h d HasAnswer level from to t (bodies.VoteReply granted) x = granted ≡ true → IsGrant h from to t x
+Tells h d HasAnswer level from to t (bodies.Append prev pt c es) x = IsOfLeader h d from t prev pt c es
+Tells h d HasAnswer level from to t (bodies.AppendReply ok i) x = ok ≡ true → IsAnswer h d level from t i x
+Tells h d HasAnswer level from to t (bodies.Beat c round) x = IsOfLeader h d from t 0 0 c [] × ((c ≡ 0) ⊎ HasAnswer to t c)
+Tells h d HasAnswer level from to t (bodies.BeatReply round) x = Unit {0}
+Tells h d HasAnswer level from to t (bodies.SnapChunk i lt number count size bytes) x = is_decided d i lt ≡ true
+Tells h d HasAnswer level from to t (bodies.SnapReply i want whole) x = whole ≡ true → IsSnapAnswer h d level from t i x
+Tells h d HasAnswer level from to t (bodies.Propose key p) x = Unit {0}
+Tells h d HasAnswer level from to t (bodies.ReadAsk key) x = Unit {0}
+Tells h d HasAnswer level from to t (bodies.ReadAnswer key i) x = Unit {0}
 
 -- all of these envelopes are from a host, and each tells of it what it says
 abbrev pub TellsAll : History → List Entry → (ℕ → ℕ → ℕ → Type 0) → (ℕ → ℕ → ℕ) → ℕ → List Envelope → Stage → Type 0

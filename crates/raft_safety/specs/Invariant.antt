@@ -3,7 +3,7 @@ use Rattle.std.specs.Prelude.{◌≡◌, ◌≢◌, ◌⊎◌, ℕ, ◌<◌, ◌
 use Rattle.host_ids.specs.declared.entry.Entry.{Entry}
 use Rattle.raft_model.specs.declared.saved.SavedState.{SavedState}
 use Rattle.wire_codec.specs.declared.envelope.Envelope.{Envelope}
-use Rattle.wire_codec.specs.declared.envelope.Body.TheVariants as kinds
+use Rattle.wire_codec.specs.declared.envelope.Body.TheVariants as bodies
 use Rattle.raft_model.specs.declared.state.State.{State as Replica}
 use Rattle.raft_model.specs.declared.state.Pending.{Pending}
 use Rattle.raft_model.specs.declared.state.Inbox.{Inbox}
@@ -26,7 +26,7 @@ pub record HasAnswer (wire : List Envelope) (v t i : ℕ) : Type 0 where
   pub term : envelope.term ≡ t
   pub index : ℕ
   pub most : i ≤ index
-  pub body : (envelope.body ≡ kinds.AppendReply true index) ⊎ ((want : ℕ) × (envelope.body ≡ kinds.SnapReply index want true))
+  pub body : (envelope.body ≡ bodies.AppendReply true index) ⊎ ((want : ℕ) × (envelope.body ≡ bodies.SnapReply index want true))
 
 -- a reign was elected by a majority of secured votes, began with the log of its campaign, and holds no entry of a term above its own
 pub record IsReign (voters : List ℕ) (h : History) (Secured : ℕ → ℕ → ℕ → Type 0) (R : Reign) : Type 0 where

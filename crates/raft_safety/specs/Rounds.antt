@@ -6,7 +6,7 @@ use Rattle.std.specs.Map.{lookup}
 use Rattle.host_ids.specs.declared.entry.Key.{Key}
 use Rattle.wire_codec.specs.declared.envelope.Envelope.{Envelope}
 use Rattle.wire_codec.specs.declared.envelope.Body.{Body}
-use Rattle.wire_codec.specs.declared.envelope.Body.TheVariants as kinds
+use Rattle.wire_codec.specs.declared.envelope.Body.TheVariants as bodies
 use Rattle.raft_model.specs.declared.state.State.{State as Replica}
 use Rattle.raft_model.specs.declared.state.Pending.{Pending}
 use Rattle.read_index.specs.declared.reads.OpenRead.{OpenRead}
@@ -25,7 +25,7 @@ aheads ms g = record g { wire = ms ++ g.wire }
 
 -- the seal that host u led term t, and that the first c places of its log are decided
 abbrev pub seal : ℕ → ℕ → ℕ → Envelope
-seal u t c = record { from = u; to = 0; group = 0; term = t; body = kinds.Append 0 0 c [] }
+seal u t c = record { from = u; to = 0; group = 0; term = t; body = bodies.Append 0 0 c [] }
 
 -- what is remembered of rounds: how many were opened in a term, and whose saved term was above it when a round was opened (who had gone)
 pub record Rounds : Type 0 where
@@ -58,17 +58,17 @@ pub record IsAsked (asks : Asks) (key : Key) : Type 0 where
 
 -- what an envelope tells of reads: a beat's round was opened, who answers a round had not gone at its opening, and an answered read has its front
 abbrev pub ReadTells : Rounds → Asks → ℕ → ℕ → Body → Type 0
-ReadTells x asks from t (kinds.Vote l lt) = Unit {0}
-ReadTells x asks from t (kinds.VoteReply granted) = Unit {0}
-ReadTells x asks from t (kinds.Append prev pt c es) = Unit {0}
-ReadTells x asks from t (kinds.AppendReply ok i) = Unit {0}
-ReadTells x asks from t (kinds.Beat c round) = round ≤ x.count t
-ReadTells x asks from t (kinds.BeatReply round) = (round ≤ x.count t) × (x.gone t round from ≡ false)
-ReadTells x asks from t (kinds.SnapChunk i lt number count size bytes) = Unit {0}
-ReadTells x asks from t (kinds.SnapReply i want all) = Unit {0}
-ReadTells x asks from t (kinds.Propose key p) = Unit {0}
-ReadTells x asks from t (kinds.ReadAsk key) = IsAsked asks key
-ReadTells x asks from t (kinds.ReadAnswer key i) = AskedWithin asks key i
+ReadTells x asks from t (bodies.Vote l lt) = Unit {0}
+ReadTells x asks from t (bodies.VoteReply granted) = Unit {0}
+ReadTells x asks from t (bodies.Append prev pt c es) = Unit {0}
+ReadTells x asks from t (bodies.AppendReply ok i) = Unit {0}
+ReadTells x asks from t (bodies.Beat c round) = round ≤ x.count t
+ReadTells x asks from t (bodies.BeatReply round) = (round ≤ x.count t) × (x.gone t round from ≡ false)
+ReadTells x asks from t (bodies.SnapChunk i lt number count size bytes) = Unit {0}
+ReadTells x asks from t (bodies.SnapReply i want all) = Unit {0}
+ReadTells x asks from t (bodies.Propose key p) = Unit {0}
+ReadTells x asks from t (bodies.ReadAsk key) = IsAsked asks key
+ReadTells x asks from t (bodies.ReadAnswer key i) = AskedWithin asks key i
 
 -- each envelope tells so, of its sender and its term
 abbrev pub AllTell : Rounds → Asks → List Envelope → Type 0

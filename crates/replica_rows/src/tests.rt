@@ -1,2 +1,1 @@
-mod given;
 mod replicas;

@@ -4,8 +4,8 @@ use Rattle.std.specs.Fmt.{digits}
 use Rattle.object_model.specs.Words.{number_on}
 use Rattle.object_model.specs.Command.{command_of, query_of}
 use Rattle.object_model.specs.Object.{after, answer}
-use Rattle.run_model.specs.Script.{read_line}
-use Rattle.run_model.specs.Print.{print_line}
+use Rattle.script_text.specs.Script.{read_line}
+use Rattle.script_text.specs.Print.{print_line}
 use Rattle.raft_model.specs.Step.{row}
 use Rattle.raft_model.specs.Group.{act}
 use Rattle.run_model.specs.Run.{output_of, run, turn, settle, save_each, deliver_each, apply_each, reached, applied, answered, proposes, asks, register, call, again, completed, close, read_asked, reads, deliver, show, lose, event_step, declare, group, grouped, settles}

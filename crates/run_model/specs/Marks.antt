@@ -4,9 +4,9 @@ use Rattle.std.specs.List.{flat_map}
 use Rattle.object_model.specs.declared.mark.What.TheVariants as whats
 use Rattle.object_model.specs.declared.mark.Mark.{Mark}
 use Rattle.object_model.specs.declared.mark.Mark.TheVariants as marks
-use Rattle.run_model.specs.declared.line.Line.{Line}
-use Rattle.run_model.specs.declared.line.Line.TheVariants as lines
-use Rattle.run_model.specs.declared.told.Told.{Told}
+use Rattle.script_text.specs.declared.line.Line.{Line}
+use Rattle.script_text.specs.declared.line.Line.TheVariants as lines
+use Rattle.script_text.specs.declared.told.Told.{Told}
 
 abbrev pub of_group : ℕ → ℕ → Mark → List Mark
 of_group wanted group mark = if group == wanted then mark ∷ [] else []

@@ -9,6 +9,7 @@ use Rattle.host_ids.specs.declared.batch.Batch.{Batch}
 use Rattle.host_ids.specs.declared.entry.Entry.{Entry}
 use Rattle.host_ids.specs.declared.entry.Key.{Key}
 use Rattle.host_ids.specs.declared.proposal.Proposal.{Proposal}
+use Rattle.host_ids.specs.declared.proposal.TheConstants.{MOST_COMMAND, MOST_SERIES}
 use Rattle.host_ids.specs.declared.proposal.Proposal.TheVariants as proposals
 use Rattle.host_ids.specs.declared.verdict.Verdict.{Verdict}
 use Rattle.host_ids.specs.declared.verdict.Verdict.TheVariants as verdicts
@@ -23,7 +24,7 @@ use Rattle.session_lru.specs.Table.{Table}
 use Rattle.session_lru.specs.Calls.{session_of, register_verdict, registered, close_verdict, closed, admit_verdict}
 use Rattle.session_lru.specs.Follow.{commanded}
 use Rattle.raft_model.specs.declared.event.LaneEvent.{LaneEvent}
-use Rattle.raft_model.specs.declared.event.LaneEvent.TheVariants as inputs
+use Rattle.raft_model.specs.declared.event.LaneEvent.TheVariants as events
 use Rattle.raft_model.specs.declared.note.Note.{Note}
 use Rattle.raft_model.specs.declared.note.Note.TheVariants as notes
 use Rattle.raft_model.specs.declared.state.State.{State as Replica}
@@ -31,27 +32,31 @@ use Rattle.raft_model.specs.Replica.{is_leader, is_changed, ripe}
 use Rattle.raft_model.specs.Saving.{is_stuck}
 use Rattle.raft_model.specs.Group.{Group, act, envelope_at, fresh_group, is_member, key_order, replica_at}
 use Rattle.run_model.specs.declared.client.ClientSession.{ClientSession}
-use Rattle.run_model.specs.declared.kind.EnvelopeKind.{EnvelopeKind}
-use Rattle.run_model.specs.declared.kind.EnvelopeKind.TheVariants as kinds
-use Rattle.run_model.specs.declared.script.ScriptLine.{ScriptLine}
-use Rattle.run_model.specs.declared.script.ScriptLine.TheVariants as script
-use Rattle.run_model.specs.declared.script.Setup.{Setup}
-use Rattle.run_model.specs.declared.script.Setup.TheVariants as setups
-use Rattle.run_model.specs.declared.script.HostEvent.{HostEvent}
-use Rattle.run_model.specs.declared.script.HostEvent.TheVariants as events
-use Rattle.run_model.specs.declared.limit.Limit.{Limit}
-use Rattle.run_model.specs.declared.limit.Limit.TheVariants as limits
-use Rattle.run_model.specs.declared.line.Line.{Line}
-use Rattle.run_model.specs.declared.line.Line.TheVariants as lines
-use Rattle.run_model.specs.declared.told.Told.{Told}
+use Rattle.script_text.specs.declared.kind.EnvelopeKind.{EnvelopeKind}
+use Rattle.script_text.specs.declared.kind.EnvelopeKind.TheVariants as kinds
+use Rattle.script_text.specs.declared.script.ScriptLine.{ScriptLine}
+use Rattle.script_text.specs.declared.script.ScriptLine.TheVariants as script_lines
+use Rattle.script_text.specs.declared.script.Setup.{Setup}
+use Rattle.script_text.specs.declared.script.Setup.TheVariants as setups
+use Rattle.script_text.specs.declared.script.HostEvent.{HostEvent}
+use Rattle.script_text.specs.declared.script.HostEvent.TheVariants as host_events
+use Rattle.script_text.specs.declared.limit.Limit.{Limit}
+use Rattle.script_text.specs.declared.limit.Limit.TheVariants as limits
+use Rattle.script_text.specs.declared.line.Line.{Line}
+use Rattle.script_text.specs.declared.line.Line.TheVariants as lines
+use Rattle.script_text.specs.declared.limit.TheConstants.{MOST_APPLIED, MOST_ENTRIES, MOST_ENVELOPES, MOST_LINE, MOST_SCRIPT}
+use Rattle.host_ids.specs.declared.proposal.TheConstants.{MOST_SESSIONS}
+use Rattle.script_text.specs.declared.refusal.Refusal.{Refusal}
+use Rattle.script_text.specs.declared.refusal.Refusal.TheVariants as refusals
+use Rattle.script_text.specs.declared.told.Told.{Told}
 use Rattle.run_model.specs.declared.told.Want.{Want}
 use Rattle.run_model.specs.declared.told.Want.TheVariants as wants
 use Rattle.run_model.specs.declared.told.Waiting.{Waiting}
 use Rattle.run_model.specs.declared.told.Stop.{Stop}
 use Rattle.run_model.specs.declared.told.Stop.TheVariants.{Ended, Bad, Full, Spent}
-use Rattle.run_model.specs.World.{Cell, Node, World, start, new_node, node_at, contexts_at, is_declared, most_sessions, waiting_order}
-use Rattle.run_model.specs.Script.{read_line, setup_after, is_end, parts_of, most_series}
-use Rattle.run_model.specs.Print.{print_line}
+use Rattle.run_model.specs.World.{Cell, Node, World, start, new_node, node_at, contexts_at, is_declared, waiting_order}
+use Rattle.script_text.specs.Script.{read_line, setup_after, is_end, parts_of}
+use Rattle.script_text.specs.Print.{print_line, refusal_number}
 
 -- ---- lines with the contexts that they show
 
@@ -70,21 +75,24 @@ abbrev pub shows : List (List (List ℕ)) → Key → Line → Told
 shows contexts key line = record { context = context_at contexts key; line = line }
 
 -- the world after an event, and the lines of the event
-pub record Step : Type 0 where
+pub record RunStep : Type 0 where
   pub world : World
   pub told : List Told
 
-abbrev pub quiet : World → Step
+abbrev pub quiet : World → RunStep
 quiet w = record { world = w; told = [] }
 
-abbrev pub tells : World → Line → Step
+abbrev pub tells : World → Line → RunStep
 tells w line = record { world = w; told = bare line ∷ [] }
 
 -- ---- refusals: they are tried in the order of their numbers, and change nothing
 
--- refused with a number where this holds, else the step
-abbrev pub unless : Bool → ℕ → World → Step → Step
-unless b number w s = if b then tells w (lines.Refused number) else s
+abbrev pub refuses : World → Refusal → RunStep
+refuses w r = tells w (lines.Refused (refusal_number r))
+
+-- refused where this holds, else the step
+abbrev pub unless : Bool → Refusal → World → RunStep → RunStep
+unless b r w s = if b then refuses w r else s
 
 -- the group is declared: it has voters
 abbrev pub has_any : List ℕ → Bool
@@ -95,8 +103,8 @@ abbrev pub has_group : World → Bool
 has_group w = has_any w.group.voters
 
 -- an event at a host that is declared and has a replica of the group
-abbrev pub at_replica : ℕ → World → Step → Step
-at_replica h w s = unless (not (is_declared w h)) 1 w (unless (not (is_member w.group h)) 2 w s)
+abbrev pub at_replica : ℕ → World → RunStep → RunStep
+at_replica h w s = unless (not (is_declared w h)) refusals.NotDeclared w (unless (not (is_member w.group h)) refusals.NoReplica w s)
 
 -- ---- events of the core
 
@@ -104,13 +112,9 @@ at_replica h w s = unless (not (is_declared w h)) 1 w (unless (not (is_member w.
 abbrev pub appended_at : ℕ → Group → Group → ℕ
 appended_at h old new = if is_leader (replica_at new h) then last (replica_at new h).log - last (replica_at old h).log else 0
 
--- a run stops where leaders have appended so many entries
-abbrev pub most_entries : ℕ
-most_entries = 200000
-
 -- the world after an event of the core that moves the replica of a host; appended entries are counted up to the number at which a run stops
 abbrev pub moved : ℕ → LaneEvent → World → World
-moved h e w = let g = (act e w.group).group in record w { group = g; appended = min most_entries (w.appended + appended_at h w.group g) }
+moved h e w = let g = (act e w.group).group in record w { group = g; appended = min MOST_ENTRIES (w.appended + appended_at h w.group g) }
 
 abbrev pub noted : LaneEvent → World → List Note
 noted e w = (act e w.group).notes
@@ -123,7 +127,7 @@ note_told notes.Idle = bare lines.Idle ∷ []
 note_told (notes.Dropped key) = []
 note_told (notes.Confirmed host key index) = []
 
-abbrev pub core : ℕ → LaneEvent → World → Step
+abbrev pub core : ℕ → LaneEvent → World → RunStep
 core h e w = record { world = moved h e w; told = flat_map note_told (noted e w) }
 
 -- the pending batch of a host's replica
@@ -132,23 +136,23 @@ pending_at w h = option_map (λ p. p.batch) (replica_at w.group h).pending
 
 -- takes a batch where none is pending
 abbrev pub taken : ℕ → World → World
-taken h w = if is_some (pending_at w h) then w else moved h (inputs.Ready h) w
+taken h w = if is_some (pending_at w h) then w else moved h (events.Ready h) w
 
 -- hands a batch back as saved; idle without one
-abbrev pub handed_back : ℕ → Option Batch → World → Step
+abbrev pub handed_back : ℕ → Option Batch → World → RunStep
 handed_back h None w = tells w lines.Idle
-handed_back h (Some b) w = core h (inputs.Saved h b.id) w
+handed_back h (Some b) w = core h (events.Saved h b.id) w
 
-abbrev pub save : ℕ → World → Step
+abbrev pub save : ℕ → World → RunStep
 save h w = handed_back h (pending_at (taken h w) h) (taken h w)
 
 -- an envelope arrives where it is for
-abbrev pub arrives : Option Envelope → ℕ → World → Step
-arrives None number w = tells w (lines.Refused 9)
-arrives (Some e) number w = core e.to (inputs.Deliver number) w
+abbrev pub arrives : Option Envelope → ℕ → World → RunStep
+arrives None number w = refuses w refusals.NoEnvelope
+arrives (Some e) number w = core e.to (events.Deliver number) w
 
-unfoldable pub deliver : ℕ → World → Step
-deliver number w = unless (not (has_group w)) 2 w (arrives (envelope_at w.group.wire number) number w)
+unfoldable pub deliver : ℕ → World → RunStep
+deliver number w = unless (not (has_group w)) refusals.NoReplica w (arrives (envelope_at w.group.wire number) number w)
 
 -- what an envelope says
 abbrev pub kind_of : Body → EnvelopeKind
@@ -164,16 +168,16 @@ kind_of (bodies.Propose key proposal) = kinds.Propose
 kind_of (bodies.ReadAsk key) = kinds.ReadAsk
 kind_of (bodies.ReadAnswer key index) = kinds.ReadAnswer
 
-abbrev pub shown_by : Option Envelope → ℕ → World → Step
-shown_by None number w = tells w (lines.Refused 9)
+abbrev pub shown_by : Option Envelope → ℕ → World → RunStep
+shown_by None number w = refuses w refusals.NoEnvelope
 shown_by (Some e) number w = tells w (lines.Wire 1 number e.from e.to (kind_of e.body) e.term)
 
-unfoldable pub show : ℕ → World → Step
-show number w = unless (not (has_group w)) 2 w (shown_by (envelope_at w.group.wire number) number w)
+unfoldable pub show : ℕ → World → RunStep
+show number w = unless (not (has_group w)) refusals.NoReplica w (shown_by (envelope_at w.group.wire number) number w)
 
 -- a settle won't deliver what was sent so far
-unfoldable pub lose : World → Step
-lose w = unless (not (has_group w)) 2 w (quiet (record w { settled = length w.group.wire }))
+unfoldable pub lose : World → RunStep
+lose w = unless (not (has_group w)) refusals.NoReplica w (quiet (record w { settled = length w.group.wire }))
 
 -- ---- requests
 
@@ -220,28 +224,44 @@ abbrev pub is_dropped : List Note → Bool
 is_dropped ns = list_any drops ns
 
 -- a proposal that the core takes joins the open requests, and one that it drops ends at once
-abbrev pub proposed : ℕ → Key → List ℕ → Proposal → World → Step
+abbrev pub proposed : ℕ → Key → List ℕ → Proposal → World → RunStep
 proposed h key context p w =
-    let e = inputs.Propose h key p in
+    let e = events.Propose h key p in
     let v = moved h e (named h context w) in
     if is_dropped (noted e w)
     then record { world = v; told = asked context (lines.Ask key 1 p) (dropped context key ∷ []) }
     else record { world = opened h key wants.Proposal v; told = asked context (lines.Ask key 1 p) [] }
 
-unfoldable pub proposes : ℕ → List ℕ → Proposal → World → Step
+unfoldable pub proposes : ℕ → List ℕ → Proposal → World → RunStep
 proposes h context p w = proposed h (next_key w h) context p w
 
 -- the context was used by a request that wasn't refused, at any host
 abbrev pub is_used : World → List ℕ → Bool
 is_used w context = list_any (λ contexts. list_any (bytes_eq context) contexts) w.contexts
 
+-- why a request under a context is refused at a host, whatever it asks
+abbrev pub request_refusal : ℕ → List ℕ → World → Option Refusal
+request_refusal h context w =
+    if not (is_declared w h) then Some refusals.NotDeclared
+    else (if not (is_member w.group h) then Some refusals.NoReplica
+    else (if is_used w context then Some refusals.ContextUsed
+    else None))
+
+-- refused where there is a reason, else the step
+abbrev pub refused_by : Option Refusal → World → RunStep → RunStep
+refused_by None w s = s
+refused_by (Some r) w s = refuses w r
+
+-- a request under a context, at a host that is declared and has a replica of the group
+abbrev pub at_request : ℕ → List ℕ → World → RunStep → RunStep
+at_request h context w s = refused_by (request_refusal h context w) w s
+
 -- a command that is asked as this proposal
-unfoldable pub asks : ℕ → List ℕ → List ℕ → Proposal → World → Step
+unfoldable pub asks : ℕ → List ℕ → List ℕ → Proposal → World → RunStep
 asks h context command p w =
-    at_replica h w
-    (unless (is_used w context) 5 w
-    (unless (nat_lt 512 (length command)) 14 w
-    (proposes h context p w)))
+    at_request h context w
+    (unless (nat_lt MOST_COMMAND (length command)) refusals.LongCommand w
+    (proposes h context p w))
 
 -- ---- sessions
 
@@ -256,54 +276,57 @@ with_client name s w = record w { clients = insert_entry text_order w.clients na
 abbrev pub new_client : ℕ → ClientSession
 new_client client = record { group = 1; client = client; series = 1; responded = 0; outstanding = None }
 
-unfoldable pub register : ℕ → List ℕ → List ℕ → ℕ → World → Step
+unfoldable pub register : ℕ → List ℕ → List ℕ → ℕ → World → RunStep
 register h context name client w =
-    at_replica h w
-    (unless (is_used w context) 5 w
-    (unless (is_some (client_at w name)) 6 w
-    (proposes h context (proposals.Register client) (with_client name (new_client client) w))))
+    at_request h context w
+    (unless (is_some (client_at w name)) refusals.SessionName w
+    (proposes h context (proposals.Register client) (with_client name (new_client client) w)))
 
 -- the command of a session's series
 abbrev pub command_of_client : ClientSession → List ℕ → Proposal
 command_of_client s command = proposals.Session s.client s.series s.responded command
 
--- a request of a session, whose name may be unknown: then it is unknown too which group it is for
-abbrev pub of_client : Option ClientSession → ℕ → List ℕ → World → (ClientSession → Step) → Step
-of_client None h context w next = unless (not (is_declared w h)) 1 w (unless (is_used w context) 5 w (tells w (lines.Refused 6)))
-of_client (Some s) h context w next = at_replica h w (unless (is_used w context) 5 w (next s))
+-- a request of a session whose name is unknown, and with it the group that it is for
+abbrev pub of_nobody : ℕ → List ℕ → World → RunStep
+of_nobody h context w = unless (not (is_declared w h)) refusals.NotDeclared w (unless (is_used w context) refusals.ContextUsed w (refuses w refusals.SessionName))
+
+-- a request of a session, whose name may be unknown
+abbrev pub of_client : Option ClientSession → ℕ → List ℕ → World → (ClientSession → RunStep) → RunStep
+of_client None h context w next = of_nobody h context w
+of_client (Some s) h context w next = at_request h context w (next s)
 
 -- the command is outstanding from now on
-abbrev pub calls : ℕ → List ℕ → List ℕ → List ℕ → ClientSession → World → Step
+abbrev pub calls : ℕ → List ℕ → List ℕ → List ℕ → ClientSession → World → RunStep
 calls h context name command s w =
-    unless (is_some s.outstanding) 7 w
-    (unless (nat_lt 512 (length command)) 14 w
+    unless (is_some s.outstanding) refusals.Outstanding w
+    (unless (nat_lt MOST_COMMAND (length command)) refusals.LongCommand w
     (proposes h context (command_of_client s command) (with_client name (record s { outstanding = Some command }) w)))
 
-unfoldable pub call : ℕ → List ℕ → List ℕ → List ℕ → World → Step
+unfoldable pub call : ℕ → List ℕ → List ℕ → List ℕ → World → RunStep
 call h context name command w = of_client (client_at w name) h context w (λ s. calls h context name command s w)
 
-abbrev pub repeats : Option (List ℕ) → ℕ → List ℕ → ClientSession → World → Step
-repeats None h context s w = tells w (lines.Refused 7)
+abbrev pub repeats : Option (List ℕ) → ℕ → List ℕ → ClientSession → World → RunStep
+repeats None h context s w = refuses w refusals.Outstanding
 repeats (Some command) h context s w = proposes h context (command_of_client s command) w
 
-unfoldable pub again : ℕ → List ℕ → List ℕ → World → Step
+unfoldable pub again : ℕ → List ℕ → List ℕ → World → RunStep
 again h context name w = of_client (client_at w name) h context w (λ s. repeats s.outstanding h context s w)
 
 -- the series is responded and the next one begins; no script is so long that the greatest is passed
 abbrev pub next_series : ClientSession → ClientSession
-next_series s = record s { series = min (s.series + 1) most_series; responded = s.series; outstanding = None }
+next_series s = record s { series = min (s.series + 1) MOST_SERIES; responded = s.series; outstanding = None }
 
-abbrev pub completed_by : Option ClientSession → List ℕ → World → Step
-completed_by None name w = tells w (lines.Refused 6)
-completed_by (Some s) name w = unless (not (is_some s.outstanding)) 7 w (quiet (with_client name (next_series s) w))
+abbrev pub completed_by : Option ClientSession → List ℕ → World → RunStep
+completed_by None name w = refuses w refusals.SessionName
+completed_by (Some s) name w = unless (not (is_some s.outstanding)) refusals.Outstanding w (quiet (with_client name (next_series s) w))
 
-unfoldable pub completed : List ℕ → World → Step
+unfoldable pub completed : List ℕ → World → RunStep
 completed name w = completed_by (client_at w name) name w
 
-abbrev pub closes : ℕ → List ℕ → ClientSession → World → Step
-closes h context s w = unless (is_some s.outstanding) 7 w (proposes h context (proposals.Close s.client) w)
+abbrev pub closes : ℕ → List ℕ → ClientSession → World → RunStep
+closes h context s w = unless (is_some s.outstanding) refusals.Outstanding w (proposes h context (proposals.Close s.client) w)
 
-unfoldable pub close : ℕ → List ℕ → List ℕ → World → Step
+unfoldable pub close : ℕ → List ℕ → List ℕ → World → RunStep
 close h context name w = of_client (client_at w name) h context w (λ s. closes h context s w)
 
 -- ---- reads
@@ -337,22 +360,22 @@ opened_read h key query index w =
     with_node h (record n { requests = record n.requests { waiting = awaits index key n.requests.waiting } }) w
 
 -- a read that is confirmed at what is applied already is answered at once, and another one joins the open requests
-abbrev pub read_taken : ℕ → Key → List ℕ → List ℕ → Option ℕ → World → Step
+abbrev pub read_taken : ℕ → Key → List ℕ → List ℕ → Option ℕ → World → RunStep
 read_taken h key context query index v =
     if is_reached index (node_at v h).cell.applied
     then record { world = v; told = asked context (lines.AskRead key 1 query) (record { context = context; line = answer_line (node_at v h).cell key query } ∷ []) }
     else record { world = opened_read h key query index v; told = asked context (lines.AskRead key 1 query) [] }
 
-unfoldable pub read_asked : ℕ → Key → List ℕ → List ℕ → World → Step
+unfoldable pub read_asked : ℕ → Key → List ℕ → List ℕ → World → RunStep
 read_asked h key context query w =
-    let e = inputs.Ask h key in
+    let e = events.Ask h key in
     let v = moved h e (named h context w) in
     if is_dropped (noted e w)
     then record { world = v; told = asked context (lines.AskRead key 1 query) (dropped context key ∷ []) }
     else read_taken h key context query (confirmed_index (noted e w)) v
 
-unfoldable pub reads : ℕ → List ℕ → List ℕ → World → Step
-reads h context query w = at_replica h w (unless (is_used w context) 5 w (read_asked h (next_key w h) context query w))
+unfoldable pub reads : ℕ → List ℕ → List ℕ → World → RunStep
+reads h context query w = at_request h context w (read_asked h (next_key w h) context query w)
 
 -- ---- applying
 
@@ -441,7 +464,7 @@ answered contexts c (key ∷ keys) wants =
     let more = answered contexts c keys (without key wants) in
     record { wants = more.wants; told = answer_told contexts c key (want_of key wants) ++ more.told }
 
--- the entries of a replica's log after what the cell was given, at most so many and none that isn't ripe
+-- the entries of a replica's log after what the cell was given, at most this number and none that isn't ripe
 abbrev pub next_entries : Replica → Cell → ℕ → List Entry
 next_entries r c most = take (min most (ripe r - c.applied)) (drop (c.applied - r.log.front) r.log.entries)
 
@@ -452,41 +475,33 @@ answers_due contexts n a = answered contexts a.cell (keys_with [] (due a.cell.ap
 abbrev pub fed : List (List (List ℕ)) → Node → Applied → Node
 fed contexts n a = record { cell = a.cell; requests = record { wants = (answers_due contexts n a).wants; waiting = not_due a.cell.applied n.requests.waiting } }
 
-abbrev pub applies : ℕ → Node → Applied → World → Step
+abbrev pub applies : ℕ → Node → Applied → World → RunStep
 applies h n a w = record { world = with_node h (fed w.contexts n a) w; told = a.told ++ (answers_due w.contexts n a).told }
 
 -- an entry of a host may be applied
 abbrev pub is_ripe : World → ℕ → Bool
 is_ripe w h = nat_lt (node_at w h).cell.applied (ripe (replica_at w.group h))
 
-abbrev pub apply : ℕ → ℕ → World → Step
+abbrev pub apply : ℕ → ℕ → World → RunStep
 apply h most w =
     let n = node_at w h in
     if is_ripe w h then applies h n (applied w.contexts (next_entries (replica_at w.group h) n.cell most) n.cell n.requests.wants) w else tells w lines.Idle
 
-unfoldable pub event_step : ℕ → HostEvent → World → Step
-event_step h (events.Timeout group) w = core h (inputs.Timeout h) w
-event_step h (events.Beat group) w = core h (inputs.Beat h) w
-event_step h (events.Ready group) w = core h (inputs.Ready h) w
-event_step h (events.Save group) w = save h w
-event_step h (events.Apply group most) w = apply h most w
+unfoldable pub event_step : ℕ → HostEvent → World → RunStep
+event_step h (host_events.Timeout group) w = core h (events.Timeout h) w
+event_step h (host_events.Beat group) w = core h (events.Beat h) w
+event_step h (host_events.Ready group) w = core h (events.Ready h) w
+event_step h (host_events.Save group) w = save h w
+event_step h (host_events.Apply group most) w = apply h most w
 
 -- ---- limits
 
--- a run stops where so many envelopes were sent
-abbrev pub most_envelopes : ℕ
-most_envelopes = 400000
-
--- a run stops where the lines that were read have so many bytes
-abbrev pub most_bytes : ℕ
-most_bytes = 67108864
-
--- the first limit that is reached, where the lines that were read have so many bytes
+-- the first limit that is reached, where the lines that were read have `size` bytes
 unfoldable pub reached : World → ℕ → Option Limit
 reached w size =
-    if nat_le most_entries w.appended then Some limits.Entries
-    else (if nat_le most_envelopes (length w.group.wire) then Some limits.Envelopes
-    else (if nat_le most_bytes size then Some limits.Script
+    if nat_le MOST_ENTRIES w.appended then Some limits.Entries
+    else (if nat_le MOST_ENVELOPES (length w.group.wire) then Some limits.Envelopes
+    else (if nat_le MOST_SCRIPT size then Some limits.Script
     else None))
 
 -- ---- lines
@@ -497,22 +512,22 @@ pub record Turn : Type 0 where
   pub told : List Told
   pub full : Option Limit
 
-abbrev pub whole : Step → Turn
+abbrev pub whole : RunStep → Turn
 whole s = record { world = s.world; told = s.told; full = None }
 
-abbrev pub tried_by : Option Limit → World → Step → Turn
+abbrev pub tried_by : Option Limit → World → RunStep → Turn
 tried_by None w s = whole s
 tried_by (Some limit) w s = record { world = w; told = []; full = Some limit }
 
 -- one of several events of a line: the limits are tried before it
-abbrev pub tried : ℕ → World → Step → Turn
+abbrev pub tried : ℕ → World → RunStep → Turn
 tried size w s = tried_by (reached w size) w s
 
-abbrev pub behind : List Told → Turn → Turn
-behind told t = record t { told = told ++ t.told }
+abbrev pub told_first : List Told → Turn → Turn
+told_first told t = record t { told = told ++ t.told }
 
 abbrev pub then_by : Option Limit → Turn → (World → Turn) → Turn
-then_by None t next = behind t.told (next t.world)
+then_by None t next = told_first t.told (next t.world)
 then_by (Some limit) t next = t
 
 -- what comes next, where no limit was reached
@@ -538,17 +553,17 @@ save_each [] size w = whole (quiet w)
 save_each (h ∷ hs) size w = then_turn (save_tried h size w) (λ v. save_each hs size v)
 
 -- the envelope after the settled number arrives, and its number is settled
-abbrev pub deliver_next : World → Step
+abbrev pub deliver_next : World → RunStep
 deliver_next w = arrives (envelope_at w.group.wire (w.settled + 1)) (w.settled + 1) (record w { settled = w.settled + 1 })
 
--- so many envelopes after the settled number arrive, in order
+-- the next envelopes after the settled number arrive, in order
 unfoldable pub deliver_each : ℕ → ℕ → World → Turn
 deliver_each zero size w = whole (quiet w)
 deliver_each (suc count) size w = then_turn (tried size w (deliver_next w)) (λ v. deliver_each count size v)
 
 -- an apply at a host where an entry is ripe
 abbrev pub apply_tried : ℕ → ℕ → World → Turn
-apply_tried h size w = where_busy (is_ripe w h) w (λ v. tried size v (apply h 200000 v))
+apply_tried h size w = where_busy (is_ripe w h) w (λ v. tried size v (apply h MOST_APPLIED v))
 
 -- an apply at each of these hosts, in their order
 unfoldable pub apply_each : List ℕ → ℕ → World → Turn
@@ -571,7 +586,7 @@ round size w = then_turn (save_each w.group.voters size w) (λ v. second_half si
 abbrev pub is_busy : World → Bool
 is_busy w = list_any (is_unsaved w) w.group.voters || nat_lt 0 (unsettled w) || list_any (is_ripe w) w.group.voters
 
--- at most so many rounds, until one has nothing to do
+-- at most this number of rounds, until one has nothing to do
 unfoldable pub settle : ℕ → ℕ → World → Turn
 settle zero size w = whole (quiet w)
 settle (suc rounds) size w = where_busy (is_busy w) w (λ v. then_turn (round size v) (λ u. settle rounds size u))
@@ -580,42 +595,42 @@ abbrev pub most_rounds : ℕ
 most_rounds = 64
 
 unfoldable pub settles : ℕ → World → Turn
-settles size w = if has_group w then settle most_rounds size w else whole (tells w (lines.Refused 2))
+settles size w = if has_group w then settle most_rounds size w else whole (refuses w refusals.NoReplica)
 
 -- ---- hosts and groups
 
-unfoldable pub declare : ℕ → World → Step
-declare h w = unless (is_declared w h) 13 w (record { world = record w { declared = slice_set w.declared h true }; told = bare (lines.Started h 1) ∷ [] })
+unfoldable pub declare : ℕ → World → RunStep
+declare h w = unless (is_declared w h) refusals.Declared w (record { world = record w { declared = slice_set w.declared h true }; told = bare (lines.Started h 1) ∷ [] })
 
 -- the group is made of these voters, with its limit of sessions: new replicas and new cells
 unfoldable pub grouped : List ℕ → ℕ → World → World
 grouped roster limit w = record w { group = fresh_group 1 roster; limit = limit; nodes = replicate 10 (new_node limit) }
 
-unfoldable pub group : List ℕ → Option ℕ → World → Step
+unfoldable pub group : List ℕ → Option ℕ → World → RunStep
 group roster limit w =
-    unless (not (list_all (is_declared w) roster)) 1 w
-    (unless (has_group w) 13 w
-    (quiet (grouped roster (unwrap_or limit most_sessions) w)))
+    unless (not (list_all (is_declared w) roster)) refusals.NotDeclared w
+    (unless (has_group w) refusals.Declared w
+    (quiet (grouped roster (unwrap_or limit MOST_SESSIONS) w)))
 
--- a line, where the lines that were read have so many bytes with it
+-- a line, where the lines that were read have `size` bytes with it
 unfoldable pub turn : ScriptLine → ℕ → World → Turn
-turn script.Skipped size w = whole (quiet w)
-turn script.End size w = whole (quiet w)
-turn (script.Host host) size w = whole (declare host w)
-turn (script.Group number kind roster limit) size w = whole (group roster limit w)
-turn (script.Event host event) size w = whole (at_replica host w (event_step host event w))
-turn (script.Deliver number envelope) size w = whole (deliver envelope w)
-turn (script.Ask host number context command) size w = whole (asks host context command (proposals.Plain command) w)
-turn (script.Read host number context query) size w = whole (reads host context query w)
-turn (script.Register host number context session client) size w = whole (register host context session client w)
-turn (script.Call host context session command) size w = whole (call host context session command w)
-turn (script.Again host context session) size w = whole (again host context session w)
-turn (script.Completed session) size w = whole (completed session w)
-turn (script.Close host context session) size w = whole (close host context session w)
-turn (script.Raw host number context client series responded command) size w = whole (asks host context command (proposals.Session client series responded command) w)
-turn (script.Settle number) size w = settles size w
-turn (script.Lose number) size w = whole (lose w)
-turn (script.Wire number envelope) size w = whole (show envelope w)
+turn script_lines.Skipped size w = whole (quiet w)
+turn script_lines.End size w = whole (quiet w)
+turn (script_lines.Host host) size w = whole (declare host w)
+turn (script_lines.Group number kind roster limit) size w = whole (group roster limit w)
+turn (script_lines.Event host event) size w = whole (at_replica host w (event_step host event w))
+turn (script_lines.Deliver number envelope) size w = whole (deliver envelope w)
+turn (script_lines.Ask host number context command) size w = whole (asks host context command (proposals.Plain command) w)
+turn (script_lines.Read host number context query) size w = whole (reads host context query w)
+turn (script_lines.Register host number context session client) size w = whole (register host context session client w)
+turn (script_lines.Call host context session command) size w = whole (call host context session command w)
+turn (script_lines.Again host context session) size w = whole (again host context session w)
+turn (script_lines.Completed session) size w = whole (completed session w)
+turn (script_lines.Close host context session) size w = whole (close host context session w)
+turn (script_lines.Raw host number context client series responded command) size w = whole (asks host context command (proposals.Session client series responded command) w)
+turn (script_lines.Settle number) size w = settles size w
+turn (script_lines.Lose number) size w = whole (lose w)
+turn (script_lines.Wire number envelope) size w = whole (show envelope w)
 
 -- ---- the run
 
@@ -649,9 +664,9 @@ goes_on (Some line) more w n = if is_end line then stops w Ended else more line
 
 -- what has no line feed and is too long for a line is a bad one, whatever comes
 abbrev pub cut_short : ℕ → List ℕ → Stop
-cut_short n line = if nat_lt 4096 (length line) then Bad (n + 1) else Spent (n + 1)
+cut_short n line = if nat_lt MOST_LINE (length line) then Bad (n + 1) else Spent (n + 1)
 
--- a run over the parts between line feeds, of which the last is no whole line, where so much is declared, after n lines of so many bytes: the limits are tried before each line
+-- a run over the parts between line feeds, of which the last is no whole line, where these groups were named, after n lines of `size` bytes: the limits are tried before each line
 unfoldable pub run : Setup → World → ℕ → ℕ → List (List ℕ) → Outcome
 run setup w n size [] = stops w (Spent (n + 1))
 run setup w n size (line ∷ []) = unless_full (reached w size) w (λ v. stops v (cut_short n line))

@@ -10,6 +10,7 @@ use Rattle.raft_model.specs.Group.{Group, fresh_group, key_order}
 use Rattle.run_model.specs.declared.client.ClientSession.{ClientSession}
 use Rattle.run_model.specs.declared.told.Want.{Want}
 use Rattle.run_model.specs.declared.told.Waiting.{Waiting}
+use Rattle.host_ids.specs.declared.proposal.TheConstants.{MOST_SESSIONS}
 
 -- the sessions and the object, and how many entries they were given
 pub record Cell : Type 0 where
@@ -17,7 +18,7 @@ pub record Cell : Type 0 where
   pub sessions : Table
   pub pairs : Pairs
 
--- a cell without sessions and keys, in which at most so many sessions may stand
+-- a cell without sessions and keys, in which at most `limit` sessions may stand
 abbrev pub new_cell : ℕ → Cell
 new_cell limit = record { applied = 0; sessions = record { limit = limit; sessions = [] }; pairs = [] }
 
@@ -49,16 +50,12 @@ pub record World : Type 0 where
   pub settled : ℕ  -- a settle delivers the envelopes with greater numbers
   pub appended : ℕ  -- how many entries leaders have appended, counted up to the number at which a run stops
 
--- a group without a limit of its own has this one of sessions
-abbrev pub most_sessions : ℕ
-most_sessions = 4096
-
 abbrev pub start : World
 start = record {
   declared = none_set;
   group = fresh_group 1 [];
-  limit = most_sessions;
-  nodes = replicate 10 (new_node most_sessions);
+  limit = MOST_SESSIONS;
+  nodes = replicate 10 (new_node MOST_SESSIONS);
   contexts = replicate 10 [];
   clients = [];
   settled = 0;
@@ -69,7 +66,7 @@ abbrev pub is_declared : World → ℕ → Bool
 is_declared w h = is_set w.declared h
 
 abbrev pub node_at : World → ℕ → Node
-node_at w h = slice_index_or w.nodes h (new_node most_sessions)
+node_at w h = slice_index_or w.nodes h (new_node MOST_SESSIONS)
 
 -- the contexts of a host's requests
 abbrev pub contexts_at : List (List (List ℕ)) → ℕ → List (List ℕ)

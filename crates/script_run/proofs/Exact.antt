@@ -9,7 +9,7 @@ use Rattle.run_model.specs.declared.told.Stop.{Stop}
 use Rattle.run_model.specs.declared.told.Stop.TheVariants.{Ended, Bad, Full, Spent}
 use Rattle.run_model.specs.World.{World}
 use Rattle.run_model.specs.Run.{outcome_of, output_of, text_of, ending}
-use Rattle.run_model.specs.Print.{print_line}
+use Rattle.script_text.specs.Print.{print_line}
 use Rattle.run_law.specs.Lawful.{RunsAreLegal, RunsAreLegalSoFar}
 use Rattle.run_law.specs.Complete.{EndsOrIsFull, ScriptsEnd}
 use Rattle.script_run.specs.Reach.{ComesTo, Stopped, IsCut, GivenUp, IsSpent, Taken}

@@ -16,38 +16,33 @@ use Rattle.std.proofs.lemmas.List.{length-take}
 use Rattle.object_model.specs.Object.{key_order as text_order}
 use Rattle.run_model.specs.declared.client.ClientSession.{ClientSession}
 use Rattle.raft_model.specs.Fit.{is_fit, are_fit}
-use Rattle.wire_codec.specs.Grammar.{are_fit_numbers, is_command, most_series}
+use Rattle.wire_codec.specs.Grammar.{are_fit_numbers, is_command}
 use Rattle.host_ids.specs.declared.proposal.Proposal.{Proposal}
 use Rattle.host_ids.specs.declared.proposal.Proposal.TheVariants as proposals
-use Rattle.object_model.specs.Command.{command_of}
 use Rattle.raft_model.specs.Saving.{payload}
-use Rattle.script_run.specs.Fit.{is_filled, is_ask, may_ask, is_fit_client, are_fit_clients}
+use Rattle.script_run.specs.Fit.{is_ask, may_ask, is_fit_client, are_fit_clients}
+use Rattle.script_text.specs.Fit.{is_filled}
+use Rattle.host_ids.specs.declared.proposal.TheConstants.{MOST_COMMAND, MOST_SERIES}
 
 -- ---- numbers
 
 pub record InRange (client series responded : ℕ) : Type 0 where
   pub client_in : 1 ≤ client
   pub series_in : 1 ≤ series
-  pub series_most : series ≤ most_series
-  pub responded_most : responded ≤ most_series
+  pub series_most : series ≤ MOST_SERIES
+  pub responded_most : responded ≤ MOST_SERIES
 
 pub fit_numbers : (client series responded : ℕ) → are_fit_numbers client series responded ≡ true → InRange client series responded
 fit_numbers client series responded h =
-    let p = and_parts (nat_le 1 client && nat_le 1 series && nat_le series most_series) (nat_le responded most_series) h in
-    let q = and_parts (nat_le 1 client && nat_le 1 series) (nat_le series most_series) p.0 in
+    let p = and_parts (nat_le 1 client && nat_le 1 series && nat_le series MOST_SERIES) (nat_le responded MOST_SERIES) h in
+    let q = and_parts (nat_le 1 client && nat_le 1 series) (nat_le series MOST_SERIES) p.0 in
     let r = and_parts (nat_le 1 client) (nat_le 1 series) q.0 in
-    record { client_in = leb-true 1 client r.0; series_in = leb-true 1 series r.1; series_most = leb-true series most_series q.1; responded_most = leb-true responded most_series p.1 }
+    record { client_in = leb-true 1 client r.0; series_in = leb-true 1 series r.1; series_most = leb-true series MOST_SERIES q.1; responded_most = leb-true responded MOST_SERIES p.1 }
 
 -- ---- commands
 
--- no command is read of an empty text
-pub filled_command : (text : List ℕ) → is_some (command_of text) ≡ true → is_filled text ≡ true
-unfolding command_of
-filled_command [] h = absurd (cc h)
-filled_command (b ∷ bs) h = let some : 1 ≤ length (b ∷ bs) = omega arith in grind (arith, nat_tests)
-
 -- what is asked may be proposed, where its command isn't too long
-pub short_ask : (p : Proposal) → is_ask p ≡ true → length (payload p) ≤ 512 → may_ask p ≡ true
+pub short_ask : (p : Proposal) → is_ask p ≡ true → length (payload p) ≤ MOST_COMMAND → may_ask p ≡ true
 short_ask proposals.Blank h l = absurd (cc h)
 short_ask (proposals.Plain command) h l = let filled : 1 ≤ length command = leb-true 1 (length command) h in grind (arith, nat_tests)
 short_ask (proposals.Session client series responded command) h l =
@@ -71,7 +66,7 @@ all_at p [] i d l h = absurd (omega (arith, l))
 all_at p (x ∷ xs) zero d l h = (all_parts p x xs h).0
 all_at p (x ∷ xs) (suc i) d l h = all_at p xs i d (omega (arith, l)) (all_parts p x xs h).1
 
--- a part of a log has at most so many entries
+-- a part of a log has at most the number of entries that was asked for
 pub length_slice : (log : Log) (first most : ℕ) → length (slice log first most) ≤ most
 length_slice log first most = rw length-take (omega arith)
 

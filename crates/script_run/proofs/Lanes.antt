@@ -18,7 +18,7 @@ use Rattle.raft_model.specs.declared.note.Note.TheVariants as notes
 use Rattle.raft_model.specs.declared.state.Pending.{Pending}
 use Rattle.raft_model.specs.Replica.{ripe}
 use Rattle.raft_model.specs.Step.{ready, after_ready}
-use Rattle.group_world.specs.World.{Kept}
+use Rattle.group_world.specs.Members.{Kept}
 use Rattle.script_run.specs.Parts.{is_memory}
 use Rattle.raft_model.specs.Group.{Group, Acted, act, at_up, compacts, delivers, did, envelope_at, inputs_at, is_asked, is_member, is_up, moved, noted_ask, readies, refuses, replica_at, restarts, saves_batch, saves_id}
 

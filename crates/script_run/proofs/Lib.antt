@@ -6,4 +6,3 @@ pub mod Parts
 pub mod Runs
 pub mod Streams
 pub mod Exact
-pub mod Rosters

@@ -4,7 +4,7 @@ use Rattle.std.specs.Prelude.{position, not}
 use Rattle.std.specs.List.{position_or_len, onto_first}
 use Rattle.std.proofs.lemmas.List.{take-append-le, drop-append-le}
 use Rattle.std.proofs.lemmas.List.Splits.{slice_split_first}
-use Rattle.run_model.specs.Script.{parts_of}
+use Rattle.script_text.specs.Script.{parts_of}
 use Rattle.script_run.specs.Reach.{HasNoFeed}
 
 abbrev is_feed : ℕ → Bool

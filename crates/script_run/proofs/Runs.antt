@@ -4,16 +4,17 @@ use Rattle.std.specs.Prelude.{nat_le}
 use Rattle.std.specs.Io.KnownBytes.{Consumes, Keeps}
 use Rattle.std.proofs.lemmas.List.{append-nil}
 use Rattle.std.proofs.lemmas.Grind.{flat_map-append}
-use Rattle.run_model.specs.declared.limit.Limit.{Limit}
-use Rattle.run_model.specs.declared.limit.Limit.TheVariants as limits
-use Rattle.run_model.specs.declared.script.ScriptLine.{ScriptLine}
-use Rattle.run_model.specs.declared.script.Setup.{Setup}
-use Rattle.run_model.specs.declared.told.Told.{Told}
+use Rattle.script_text.specs.declared.limit.Limit.{Limit}
+use Rattle.script_text.specs.declared.limit.Limit.TheVariants as limits
+use Rattle.script_text.specs.declared.script.ScriptLine.{ScriptLine}
+use Rattle.script_text.specs.declared.script.Setup.{Setup}
+use Rattle.script_text.specs.declared.told.Told.{Told}
 use Rattle.run_model.specs.declared.told.Stop.{Stop}
 use Rattle.run_model.specs.declared.told.Stop.TheVariants.{Ended, Bad, Full, Spent}
 use Rattle.run_model.specs.World.{World}
-use Rattle.run_model.specs.Script.{read_line, parts_of, is_end, setup_after}
-use Rattle.run_model.specs.Run.{Outcome, run, text_of, told_before, stops, turn, most_bytes, most_entries, most_envelopes, reached}
+use Rattle.script_text.specs.Script.{read_line, parts_of, is_end, setup_after}
+use Rattle.run_model.specs.Run.{Outcome, run, text_of, told_before, stops, turn, reached}
+use Rattle.script_text.specs.declared.limit.TheConstants.{MOST_ENTRIES, MOST_ENVELOPES, MOST_LINE, MOST_SCRIPT}
 use Rattle.script_run.specs.Reach.{ComesTo, Ahead, HasNoFeed}
 use Rattle.script_run.proofs.Parts.{has_parts, joined_parts, lone_part}
 
@@ -75,11 +76,11 @@ unfolding run
 at_end setup w n size line rest said h e t = let p = has_parts rest in rw (p.are, h, e, t) refl
 
 -- the run after a line that is none of these
-abbrev pub run_behind : Setup → World → ℕ → ℕ → List ℕ → List ℕ → ScriptLine → Outcome
-run_behind setup w n size line rest said = run (setup_after said setup) (turn said (size + (length line + 1)) w).world (n + 1) (size + (length line + 1)) (parts_of rest)
+abbrev pub run_after : Setup → World → ℕ → ℕ → List ℕ → List ℕ → ScriptLine → Outcome
+run_after setup w n size line rest said = run (setup_after said setup) (turn said (size + (length line + 1)) w).world (n + 1) (size + (length line + 1)) (parts_of rest)
 
 at_line : (setup : Setup) (w : World) (n size : ℕ) (line rest : List ℕ) (said : ScriptLine) → reached w size ≡ None → read_line setup line ≡ Some said → is_end said ≡ false → (turn said (size + (length line + 1)) w).full ≡ None
-    → run setup w n size (line ∷ parts_of rest) ≡ told_before (turn said (size + (length line + 1)) w).told (run_behind setup w n size line rest said)
+    → run setup w n size (line ∷ parts_of rest) ≡ told_before (turn said (size + (length line + 1)) w).told (run_after setup w n size line rest said)
 unfolding run
 at_line setup w n size line rest said h e t f = let p = has_parts rest in rw (p.are, h, e, t, f) refl
 
@@ -88,21 +89,21 @@ at_full : (setup : Setup) (w : World) (n size : ℕ) (line rest : List ℕ) (sai
 unfolding run
 at_full setup w n size line rest said limit h e t f = let p = has_parts rest in rw (p.are, h, e, t, f) refl
 
-pub at_last : (setup : Setup) (w : World) (n size : ℕ) (text : List ℕ) → reached w size ≡ None → HasNoFeed text → length text ≤ 4096 → run setup w n size (parts_of text) ≡ stops w (Spent (n + 1))
+pub at_last : (setup : Setup) (w : World) (n size : ℕ) (text : List ℕ) → reached w size ≡ None → HasNoFeed text → length text ≤ MOST_LINE → run setup w n size (parts_of text) ≡ stops w (Spent (n + 1))
 unfolding run
-at_last setup w n size text h f s = rw (lone_part text f, h, le-ltb 4096 (length text) s) refl
+at_last setup w n size text h f s = rw (lone_part text f, h, le-ltb MOST_LINE (length text) s) refl
 
-too_long : (setup : Setup) (line : List ℕ) → 4096 < length line → read_line setup line ≡ None
+too_long : (setup : Setup) (line : List ℕ) → MOST_LINE < length line → read_line setup line ≡ None
 unfolding read_line
-too_long setup line h = rw (lt-ltb 4096 (length line) h) refl
+too_long setup line h = rw (lt-ltb MOST_LINE (length line) h) refl
 
-long_by : (setup : Setup) (w : World) (n size : ℕ) (line : List ℕ) (others : List (List ℕ)) → reached w size ≡ None → 4096 < length line → run setup w n size (line ∷ others) ≡ stops w (Bad (n + 1))
+long_by : (setup : Setup) (w : World) (n size : ℕ) (line : List ℕ) (others : List (List ℕ)) → reached w size ≡ None → MOST_LINE < length line → run setup w n size (line ∷ others) ≡ stops w (Bad (n + 1))
 unfolding run
-long_by setup w n size line [] h l = rw (h, lt-ltb 4096 (length line) l) refl
+long_by setup w n size line [] h l = rw (h, lt-ltb MOST_LINE (length line) l) refl
 long_by setup w n size line (next ∷ more) h l = rw (h, too_long setup line l) refl
 
 -- a part that is too long for a line is a bad one, whatever comes
-pub at_long : (setup : Setup) (w : World) (n size : ℕ) (text more : List ℕ) → reached w size ≡ None → HasNoFeed text → 4096 < length text → run setup w n size (parts_of (text ++ more)) ≡ stops w (Bad (n + 1))
+pub at_long : (setup : Setup) (w : World) (n size : ℕ) (text more : List ℕ) → reached w size ≡ None → HasNoFeed text → MOST_LINE < length text → run setup w n size (parts_of (text ++ more)) ≡ stops w (Bad (n + 1))
 at_long setup w n size text more h f l =
     let p = has_parts more in
     rw (joined_parts text more p.first p.others f p.are) (long_by setup w n size (text ++ p.first) p.others h (rw length-append (omega (arith, l))))
@@ -110,7 +111,7 @@ at_long setup w n size text more h f l =
 -- one line more is run
 pub next_ahead : (done : List ℕ) (setup : Setup) (w : World) (n size : ℕ) (text line rest : List ℕ) (said : ScriptLine) (total : Outcome) → Ahead done (run setup w n size (parts_of text)) total → parts_of text ≡ line ∷ parts_of rest
     → reached w size ≡ None → read_line setup line ≡ Some said → is_end said ≡ false → (turn said (size + (length line + 1)) w).full ≡ None
-    → Ahead (done ++ text_of (turn said (size + (length line + 1)) w).told) (run_behind setup w n size line rest said) total
+    → Ahead (done ++ text_of (turn said (size + (length line + 1)) w).told) (run_after setup w n size line rest said) total
 next_ahead done setup w n size text line rest said total a p h e t f =
     let told = (turn said (size + (length line + 1)) w).told in
     let next = ap (run setup w n size) p ∙ at_line setup w n size line rest said h e t f in
@@ -127,9 +128,9 @@ full_reached done setup w n size text line rest said limit total a p h e t f =
     (record { stop_is = refl; world_is = refl; told = ap text_of (sym (append-nil said_turn.told)) })
 
 -- where no limit is reached, the lines have fewer bytes than may be
-pub reached_below : (w : World) (size : ℕ) → reached w size ≡ None → size < most_bytes
+pub reached_below : (w : World) (size : ℕ) → reached w size ≡ None → size < MOST_SCRIPT
 unfolding reached
-reached_below w size h = below_by (nat_le most_entries w.appended) (nat_le most_envelopes (length w.group.wire)) (nat_le most_bytes size) h (leb-false most_bytes size)
+reached_below w size h = below_by (nat_le MOST_ENTRIES w.appended) (nat_le MOST_ENVELOPES (length w.group.wire)) (nat_le MOST_SCRIPT size) h (leb-false MOST_SCRIPT size)
 
 -- ---- what a source gives
 

@@ -1,9 +1,9 @@
 -- The steps of a settle, one by one.
 use Rattle.std.proofs.Common.{◌≡◌, ℕ, zero, suc, ◌+◌, ◌-◌, ◌<◌, ◌≤◌, List, [], ◌∷◌, true, false, None, Some, length, get_or, drop, refl, arith, add-one}
 use Rattle.std.proofs.Math.Seq.{drop-cons}
-use Rattle.run_model.specs.declared.limit.Limit.{Limit}
+use Rattle.script_text.specs.declared.limit.Limit.{Limit}
 use Rattle.run_model.specs.World.{World}
-use Rattle.run_model.specs.Run.{settle, round, is_busy, whole, quiet, behind, save_each, save_tried, deliver_each, deliver_next, apply_each, apply_tried, reached}
+use Rattle.run_model.specs.Run.{settle, round, is_busy, whole, quiet, told_first, save_each, save_tried, deliver_each, deliver_next, apply_each, apply_tried, reached}
 
 -- ---- rounds
 
@@ -20,7 +20,7 @@ settle_idle zero size w e = refl
 settle_idle (suc n) size w e = rw e refl
 
 -- a round is done, and one fewer is left
-pub settle_round : (n size : ℕ) (w : World) → 0 < n → is_busy w ≡ true → (round size w).full ≡ None → settle n size w ≡ behind (round size w).told (settle (n - 1) size (round size w).world)
+pub settle_round : (n size : ℕ) (w : World) → 0 < n → is_busy w ≡ true → (round size w).full ≡ None → settle n size w ≡ told_first (round size w).told (settle (n - 1) size (round size w).world)
 unfolding settle
 settle_round zero size w h e f = absurd (omega (arith, h))
 settle_round (suc n) size w h e f = let k : suc n - 1 ≡ n = omega arith in rw (e, f, k) refl
@@ -41,7 +41,7 @@ saves_none (x ∷ xs) zero size w h = absurd (omega (arith, h))
 saves_none (x ∷ xs) (suc i) size w h = saves_none xs i size w (omega (arith, h))
 
 pub saves_next : (hosts : List ℕ) (i size : ℕ) (w : World) → i < length hosts → (save_tried (get_or hosts i 0) size w).full ≡ None
-    → save_each (drop i hosts) size w ≡ behind (save_tried (get_or hosts i 0) size w).told (save_each (drop (i + 1) hosts) size (save_tried (get_or hosts i 0) size w).world)
+    → save_each (drop i hosts) size w ≡ told_first (save_tried (get_or hosts i 0) size w).told (save_each (drop (i + 1) hosts) size (save_tried (get_or hosts i 0) size w).world)
 unfolding save_each
 saves_next hosts i size w h f = rw (add-one, drop-cons hosts i 0, f) refl
 
@@ -59,7 +59,7 @@ applies_none (x ∷ xs) zero size w h = absurd (omega (arith, h))
 applies_none (x ∷ xs) (suc i) size w h = applies_none xs i size w (omega (arith, h))
 
 pub applies_next : (hosts : List ℕ) (i size : ℕ) (w : World) → i < length hosts → (apply_tried (get_or hosts i 0) size w).full ≡ None
-    → apply_each (drop i hosts) size w ≡ behind (apply_tried (get_or hosts i 0) size w).told (apply_each (drop (i + 1) hosts) size (apply_tried (get_or hosts i 0) size w).world)
+    → apply_each (drop i hosts) size w ≡ told_first (apply_tried (get_or hosts i 0) size w).told (apply_each (drop (i + 1) hosts) size (apply_tried (get_or hosts i 0) size w).world)
 unfolding apply_each
 applies_next hosts i size w h f = rw (add-one, drop-cons hosts i 0, f) refl
 
@@ -75,7 +75,7 @@ deliveries_none zero size w h = refl
 deliveries_none (suc n) size w h = absurd (omega (arith, h))
 
 -- one is done, and one fewer is left
-pub deliveries_next : (n size : ℕ) (w : World) → 0 < n → reached w size ≡ None → deliver_each n size w ≡ behind (deliver_next w).told (deliver_each (n - 1) size (deliver_next w).world)
+pub deliveries_next : (n size : ℕ) (w : World) → 0 < n → reached w size ≡ None → deliver_each n size w ≡ told_first (deliver_next w).told (deliver_each (n - 1) size (deliver_next w).world)
 unfolding deliver_each
 deliveries_next zero size w h e = absurd (omega (arith, h))
 deliveries_next (suc n) size w h e = let k : suc n - 1 ≡ n = omega arith in rw (e, k) refl

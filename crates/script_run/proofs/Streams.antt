@@ -6,7 +6,7 @@ use Rattle.fault_io.specs.Faults.{WritesFront}
 use Rattle.fault_io.proofs.Known.{Appends-append, Appends-none}
 use Rattle.run_model.specs.declared.told.Stop.{Stop}
 use Rattle.run_model.specs.declared.told.Stop.TheVariants.{Spent}
-use Rattle.run_model.specs.declared.script.Setup.TheVariants as setups
+use Rattle.script_text.specs.declared.script.Setup.TheVariants as setups
 use Rattle.run_model.specs.World.{World, start}
 use Rattle.run_model.specs.Run.{Outcome, outcome_of, text_of, reached, stops}
 use Rattle.script_run.specs.Reach.{Ahead, ComesTo, HasNoFeed, Place, run_on, Leaves, StopsAt, Stopped, IsCut, GivenUp, IsPrompt, IsSpent}

@@ -3,12 +3,13 @@ use Rattle.std.specs.Prelude.{◌≡◌, ◌≤◌, ◌<◌, ◌+◌, ◌++◌, 
 use Rattle.std.specs.List.{AllByRecursion}
 use Rattle.std.specs.Io.KnownBytes.{Appends, Consumes}
 use Rattle.fault_io.specs.Faults.{WritesFront}
-use Rattle.run_model.specs.declared.script.Setup.{Setup}
+use Rattle.script_text.specs.declared.script.Setup.{Setup}
 use Rattle.run_model.specs.declared.told.Stop.{Stop}
 use Rattle.run_model.specs.declared.told.Stop.TheVariants.{Ended, Bad, Full, Spent}
 use Rattle.run_model.specs.World.{World}
-use Rattle.run_model.specs.Script.{parts_of}
-use Rattle.run_model.specs.Run.{Outcome, run, outcome_of, text_of, most_bytes, reached}
+use Rattle.script_text.specs.Script.{parts_of}
+use Rattle.run_model.specs.Run.{Outcome, run, outcome_of, text_of, reached}
+use Rattle.script_text.specs.declared.limit.TheConstants.{MOST_LINE, MOST_SCRIPT}
 
 -- the stop and the world of this outcome, and these are its lines
 pub record ComesTo (done : List ℕ) (total : Outcome) (stop : Stop) (world : World) : Type 0 where
@@ -39,8 +40,8 @@ run_on p text = run p.setup p.world p.lines p.size (parts_of text)
 pub record Leaves (done : List ℕ) (before : Place) (text : List ℕ) (after : Place) (rest : List ℕ) : Type 0 where
   pub ahead : (more : List ℕ) → Ahead done (run_on after (rest ++ more)) (run_on before (text ++ more))
   pub open_end : HasNoFeed rest
-  pub short : length rest ≤ 4096
-  pub below : after.size < most_bytes
+  pub short : length rest ≤ MOST_LINE
+  pub below : after.size < MOST_SCRIPT
   pub within : reached after.world after.size ≡ None
   pub sizes : after.size + length rest ≡ before.size + length text
   pub counts : after.lines ≤ after.size
@@ -73,7 +74,7 @@ pub record Taken (left_old left_new old now : Option (List ℕ)) (script : List 
   pub few : length script < 67121153
   pub prompt : IsPrompt script old now
 
--- a run over what was taken, which stops whatever comes; so much of its lines isn't put yet
+-- a run over what was taken, which stops whatever comes; `out` of its lines isn't put yet
 pub record Stopped (left_old left_new old now : Option (List ℕ)) (stop : Stop) (world : World) (unput : List ℕ) : Type 0 where
   pub script : List ℕ
   pub taken : Taken left_old left_new old now script

@@ -2,15 +2,17 @@
 use Rattle.std.specs.Prelude.{◌≡◌, ◌≢◌, ◌<◌, ◌++◌, ℕ, List, [], ◌∷◌, ◌==◌, ◌&&◌, ◌↔◌, Bool, true, Option, None, Some, codes, bytes_eq, length, slice_index_or, ◌⊎◌}
 use Rattle.std.specs.Io.KnownBytes.{Consumes, Appends, IsAtEnd}
 use Rattle.fault_io.specs.Faults.{WritesFront}
-use Rattle.run_model.specs.declared.limit.Limit.{Limit}
+use Rattle.script_text.specs.declared.limit.Limit.{Limit}
 use Rattle.run_model.specs.declared.told.Stop.{Stop}
 use Rattle.run_model.specs.declared.told.Stop.TheVariants.{Ended, Bad, Full, Spent}
-use Rattle.run_model.specs.declared.line.Line.TheVariants as lines
+use Rattle.script_text.specs.declared.line.Line.TheVariants as lines
 use Rattle.run_model.specs.World.{World}
-use Rattle.run_model.specs.Script.{is_script}
+use Rattle.script_text.specs.Script.{is_script}
 use Rattle.run_model.specs.Run.{bare, outcome_of, output_of, text_of, ending}
 use Rattle.run_law.specs.Lawful.{IsLegalAtEnd, IsLegalSoFar}
 use Rattle.script_run.specs.declared.lines.Runner.{Runner}
+use Rattle.script_run.specs.declared.status.Finish.{Finish}
+use Rattle.script_run.specs.declared.status.Finish.TheVariants as finishes
 use Rattle.script_run.specs.declared.lines.Progress.{Progress}
 use Rattle.script_run.specs.declared.lines.Progress.TheVariants as progress
 use Rattle.script_run.specs.declared.stream.Streamed.{Streamed}
@@ -35,12 +37,25 @@ HasStreamed left_old left_new old now (streamed.Faulted line) world = IsCut left
 abbrev pub is_run : List (List ℕ) → Bool
 is_run words = (length words == 1) && bytes_eq (slice_index_or words 0 []) (codes "run")
 
--- the status of a run that stops so: 0 at its end, 3 at a bad line, also one that isn't whole, 7 at the limit
+-- the number by which a process answers what a call comes to
+abbrev pub finish_number : Finish → ℕ
+finish_number finishes.Done = 0
+finish_number finishes.Usage = 2
+finish_number finishes.BadLine = 3
+finish_number finishes.ReadFault = 4
+finish_number finishes.WriteFault = 5
+finish_number finishes.Limit = 7
+finish_number finishes.NoMemory = 8
+
+-- what a run that stops so comes to; a line that isn't whole is a bad one
+abbrev pub finish_of : Stop → Finish
+finish_of Ended = finishes.Done
+finish_of (Bad line) = finishes.BadLine
+finish_of (Full limit) = finishes.Limit
+finish_of (Spent line) = finishes.BadLine
+
 abbrev pub status_of : Stop → ℕ
-status_of Ended = 0
-status_of (Bad line) = 3
-status_of (Full limit) = 7
-status_of (Spent line) = 3
+status_of stop = finish_number (finish_of stop)
 
 -- the run over this text stops with this status
 abbrev pub StopsWith : List ℕ → ℕ → Type 0
@@ -66,7 +81,7 @@ IsExactly P status number = IsInstead number ⊎ ((number ≡ status) ↔ P)
 abbrev pub IsWithinLimits : List ℕ → Type 0
 IsWithinLimits input = (limit : Limit) → (outcome_of input).stop ≢ Full limit
 
--- some bytes were taken, fewer than so many
+-- some bytes were taken, fewer than `most`
 abbrev pub Takes : Option (List ℕ) → Option (List ℕ) → ℕ → Type 0
 Takes old new most = (bytes : List ℕ) × Consumes old new bytes × (length bytes < most)
 

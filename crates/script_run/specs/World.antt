@@ -1,7 +1,7 @@
 -- The world of the program as the world of the rules.
 use Rattle.std.specs.Prelude.{ℕ, List, [], ◌∷◌, Option, if◌then◌else◌}
 use Rattle.host_ids.specs.declared.entry.Key.{Key}
-use Rattle.run_model.specs.declared.told.Told.{Told}
+use Rattle.script_text.specs.declared.told.Told.{Told}
 use Rattle.run_model.specs.World as rules
 use Rattle.run_model.specs.Run.{answer_line, is_reached}
 use Rattle.script_run.specs.declared.world.World.{World}

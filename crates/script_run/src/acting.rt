@@ -5,6 +5,7 @@ ghost use Rattle.run_model.specs.World.{is_declared, node_at};
 ghost use Rattle.run_model.specs.Run.{bare, core, has_any, has_group, is_ripe, is_unsaved, is_used, moved, next_key, noted, reached, unsettled};
 ghost use Rattle.script_run.specs.Parts.{is_memory, is_leading};
 ghost use Rattle.script_run.specs.World.{world_of};
+ghost use Rattle.script_text.specs.Print.{refusal_number};
 
 use crate::cell::tell;
 use crate::notes::tell_notes;
@@ -12,17 +13,11 @@ use crate::world::World;
 use group_world::Lane;
 use host_ids::{Key, NoMemory, Text};
 use raft_core::{LaneEvent, LaneFault, Note, Role};
-use run_model::{Limit, Line, Tolds};
+use script_text::{Limit, Line, MOST_ENTRIES, MOST_ENVELOPES, MOST_SCRIPT, Refusal, Tolds};
 use std::alloc::Global;
 
-/// A run stops where leaders have appended so many entries.
-const MOST_ENTRIES: u64 = 200_000;
-
-/// A run stops where so many envelopes were sent.
-const MOST_ENVELOPES: u64 = 400_000;
-
-/// A run stops where the lines that were read have so many bytes.
-const MOST_BYTES: usize = 67_108_864;
+/// The limit of a script, as a length.
+const SCRIPT_LENGTH: usize = MOST_SCRIPT as usize;
 
 fn has_any(voters: &[u8]) -> bool
     ensures { result ≡ has_any voters.now }
@@ -40,11 +35,11 @@ fn is_leading(role: Role) -> bool
 }
 
 /// How many entries an event appended where these were the last indices before and after it.
-fn appended_by(role: Role, before: u64, behind: u64) -> u64
-    ensures { result ≡ (if is_leading role then behind - before else 0) }
+fn appended_by(role: Role, before: u64, later: u64) -> u64
+    ensures { result ≡ (if is_leading role then later - before else 0) }
 {
     if is_leading(role) {
-        behind.saturating_sub(before)
+        later.saturating_sub(before)
     } else {
         0
     }
@@ -119,14 +114,15 @@ impl World {
     }
 
     /// Tells that a line is refused.
-    pub fn refuse(&self, number: u8, out: &mut Tolds) -> Result<(), NoMemory>
-        ensures { OnOk result (out.new ≡ out.old ++ bare (Line.Refused number) ∷ []) }
+    pub fn refuse(&self, refusal: Refusal, out: &mut Tolds) -> Result<(), NoMemory>
+        ensures { OnOk result (out.new ≡ out.old ++ bare (Line.Refused (refusal_number refusal)) ∷ []) }
     {
+        let number = refusal.number();
         tell(self.alloc, Line::Refused { number }, out)
     }
 
     /// An event of the core that moves the replica of a host: its notes. After `NoMemory`, the only
-    /// error, the world is only to be dropped.
+    /// error, the world can only be dropped.
     pub fn act(&mut self, host: u8, event: LaneEvent) -> Result<Vec<Note>, NoMemory>
         requires given { IsGiven (world_of self.old).group event }
         ensures world { OnOk result (world_of self.new ≡ moved host event (world_of self.old)) }
@@ -154,7 +150,7 @@ impl World {
         tell_notes(self.alloc, &notes, out)
     }
 
-    /// The first limit that is reached, where the lines that were read have so many bytes.
+    /// The first limit that is reached, where the lines that were read have `size` bytes.
     #[tactic(auto, unfolding(run_model::specs::Run::reached))]
     pub fn reached(&self, size: usize) -> Option<Limit>
         ensures { result ≡ reached (world_of self.now) size }
@@ -165,7 +161,7 @@ impl World {
         if self.lane.newest() >= MOST_ENVELOPES {
             return Some(Limit::Envelopes);
         }
-        if size >= MOST_BYTES {
+        if size >= SCRIPT_LENGTH {
             return Some(Limit::Script);
         }
         None

@@ -1,17 +1,18 @@
 ghost use Rattle.std.specs.Prelude.{◌≡◌, ◌≤◌, ◌<◌, ◌++◌, ℕ, List, true, OnOk, length as list_length};
-ghost use Rattle.run_model.specs.Run.{again, asks, call, close, completed, is_used, next_key, proposes, read_asked, read_taken, reads, register, tells, unless};
+ghost use Rattle.run_model.specs.Run.{again, asks, call, close, completed, next_key, of_nobody, proposes, read_asked, read_taken, reads, register, request_refusal};
 ghost use Rattle.script_run.specs.Fit.{may_ask};
 ghost use Rattle.script_run.specs.World.{world_of, read_after};
+ghost use Rattle.host_ids.specs.declared.proposal.TheConstants.{MOST_COMMAND};
 
 use crate::notes::{confirmed_index, is_dropped};
 use crate::world::World;
-use host_ids::{Key, NoMemory, Proposal, Text};
+use host_ids::{Key, MOST_COMMAND, MOST_SERIES, NoMemory, Proposal, Text};
 use raft_core::LaneEvent;
-use run_model::{ClientSession, Line, Told, Tolds, Want};
-use wire_codec::{MOST_COMMAND, MOST_SERIES};
+use run_model::{ClientSession, Want};
+use script_text::{Line, Refusal, Told, Tolds};
 
 impl World {
-    /// The line `ask`, and `raw`: asks a command of so many bytes as this proposal.
+    /// The line `ask`, and `raw`: asks a command of `length` bytes as this proposal.
     #[tactic(auto, unfolding(run_model::specs::Run::asks))]
     pub fn ask(
         &mut self,
@@ -22,21 +23,15 @@ impl World {
         out: &mut Tolds,
     ) -> Result<(), NoMemory>
         requires host { (1 ≤ host) × (host ≤ 9) }
-        requires fit { length ≤ 512 → may_ask proposal ≡ true }
+        requires fit { length ≤ MOST_COMMAND → may_ask proposal ≡ true }
         ensures world { (command : List ℕ) → length ≡ list_length command → OnOk result (world_of self.new ≡ (asks host context command proposal (world_of self.old)).world) }
         ensures told { (command : List ℕ) → length ≡ list_length command → OnOk result (out.new ≡ out.old ++ (asks host context command proposal (world_of self.old)).told) }
     {
-        if !self.is_declared(host) {
-            return self.refuse(1, out);
-        }
-        if !self.is_voter(host) {
-            return self.refuse(2, out);
-        }
-        if self.is_used(&context) {
-            return self.refuse(5, out);
+        if let Some(refusal) = self.request_refusal(host, &context) {
+            return self.refuse(refusal, out);
         }
         if length > MOST_COMMAND {
-            return self.refuse(14, out);
+            return self.refuse(Refusal::LongCommand, out);
         }
         self.propose(host, context, proposal, out)
     }
@@ -56,17 +51,11 @@ impl World {
         ensures world { OnOk result (world_of self.new ≡ (register host context name client (world_of self.old)).world) }
         ensures told { OnOk result (out.new ≡ out.old ++ (register host context name client (world_of self.old)).told) }
     {
-        if !self.is_declared(host) {
-            return self.refuse(1, out);
-        }
-        if !self.is_voter(host) {
-            return self.refuse(2, out);
-        }
-        if self.is_used(&context) {
-            return self.refuse(5, out);
+        if let Some(refusal) = self.request_refusal(host, &context) {
+            return self.refuse(refusal, out);
         }
         if self.clients.get(&name).is_some() {
-            return self.refuse(6, out);
+            return self.refuse(Refusal::SessionName, out);
         }
         let session = ClientSession {
             group: 1,
@@ -94,23 +83,17 @@ impl World {
         ensures world { OnOk result (world_of self.new ≡ (call host context name command (world_of self.old)).world) }
         ensures told { OnOk result (out.new ≡ out.old ++ (call host context name command (world_of self.old)).told) }
     {
-        if !self.is_declared(host) {
-            return self.refuse(1, out);
-        }
         let Some(session) = self.clients.get(&name) else {
-            return self.refuse_unknown(&context, out);
+            return self.refuse_unknown(host, &context, out);
         };
-        if !self.is_voter(host) {
-            return self.refuse(2, out);
-        }
-        if self.is_used(&context) {
-            return self.refuse(5, out);
+        if let Some(refusal) = self.request_refusal(host, &context) {
+            return self.refuse(refusal, out);
         }
         if session.outstanding.is_some() {
-            return self.refuse(7, out);
+            return self.refuse(Refusal::Outstanding, out);
         }
         if command.bytes().len() > MOST_COMMAND {
-            return self.refuse(14, out);
+            return self.refuse(Refusal::LongCommand, out);
         }
         let responded = session.responded;
         let next = ClientSession {
@@ -143,20 +126,14 @@ impl World {
         ensures world { OnOk result (world_of self.new ≡ (again host context name.now (world_of self.old)).world) }
         ensures told { OnOk result (out.new ≡ out.old ++ (again host context name.now (world_of self.old)).told) }
     {
-        if !self.is_declared(host) {
-            return self.refuse(1, out);
-        }
         let Some(session) = self.clients.get(name) else {
-            return self.refuse_unknown(&context, out);
+            return self.refuse_unknown(host, &context, out);
         };
-        if !self.is_voter(host) {
-            return self.refuse(2, out);
-        }
-        if self.is_used(&context) {
-            return self.refuse(5, out);
+        if let Some(refusal) = self.request_refusal(host, &context) {
+            return self.refuse(refusal, out);
         }
         let Some(command) = &session.outstanding else {
-            return self.refuse(7, out);
+            return self.refuse(Refusal::Outstanding, out);
         };
         let series = session.series;
         let proposal = Proposal::Session {
@@ -175,10 +152,10 @@ impl World {
         ensures told { OnOk result (out.new ≡ out.old ++ (completed name (world_of self.old)).told) }
     {
         let Some(session) = self.clients.get(&name) else {
-            return self.refuse(6, out);
+            return self.refuse(Refusal::SessionName, out);
         };
         if session.outstanding.is_none() {
-            return self.refuse(7, out);
+            return self.refuse(Refusal::Outstanding, out);
         }
         let next = ClientSession {
             group: session.group,
@@ -203,33 +180,46 @@ impl World {
         ensures world { OnOk result (world_of self.new ≡ (close host context name.now (world_of self.old)).world) }
         ensures told { OnOk result (out.new ≡ out.old ++ (close host context name.now (world_of self.old)).told) }
     {
-        if !self.is_declared(host) {
-            return self.refuse(1, out);
-        }
         let Some(session) = self.clients.get(name) else {
-            return self.refuse_unknown(&context, out);
+            return self.refuse_unknown(host, &context, out);
         };
-        if !self.is_voter(host) {
-            return self.refuse(2, out);
-        }
-        if self.is_used(&context) {
-            return self.refuse(5, out);
+        if let Some(refusal) = self.request_refusal(host, &context) {
+            return self.refuse(refusal, out);
         }
         if session.outstanding.is_some() {
-            return self.refuse(7, out);
+            return self.refuse(Refusal::Outstanding, out);
         }
         let client = session.client;
         self.propose(host, context, Proposal::Close { client }, out)
     }
 
-    /// Tells that a request of an unknown session is refused: its context may be used too.
-    fn refuse_unknown(&self, context: &Text, out: &mut Tolds) -> Result<(), NoMemory>
-        ensures { OnOk result (out.new ≡ out.old ++ (unless (is_used (world_of self.now) context.now) 5 (world_of self.now) (tells (world_of self.now) (Line.Refused 6))).told) }
+    /// Why a request under a context is refused at a host, whatever it asks.
+    fn request_refusal(&self, host: u8, context: &Text) -> Option<Refusal>
+        ensures { result ≡ request_refusal host context.now (world_of self.now) }
     {
-        if self.is_used(context) {
-            return self.refuse(5, out);
+        if !self.is_declared(host) {
+            return Some(Refusal::NotDeclared);
         }
-        self.refuse(6, out)
+        if !self.is_voter(host) {
+            return Some(Refusal::NoReplica);
+        }
+        if self.is_used(context) {
+            return Some(Refusal::ContextUsed);
+        }
+        None
+    }
+
+    /// Tells why a request of an unknown session is refused.
+    fn refuse_unknown(&self, host: u8, context: &Text, out: &mut Tolds) -> Result<(), NoMemory>
+        ensures { OnOk result (out.new ≡ out.old ++ (of_nobody host context.now (world_of self.now)).told) }
+    {
+        if !self.is_declared(host) {
+            return self.refuse(Refusal::NotDeclared, out);
+        }
+        if self.is_used(context) {
+            return self.refuse(Refusal::ContextUsed, out);
+        }
+        self.refuse(Refusal::SessionName, out)
     }
 
     /// A proposal is asked at a host.
@@ -282,14 +272,8 @@ impl World {
         ensures world { OnOk result (world_of self.new ≡ (reads host context query (world_of self.old)).world) }
         ensures told { OnOk result (out.new ≡ out.old ++ (reads host context query (world_of self.old)).told) }
     {
-        if !self.is_declared(host) {
-            return self.refuse(1, out);
-        }
-        if !self.is_voter(host) {
-            return self.refuse(2, out);
-        }
-        if self.is_used(&context) {
-            return self.refuse(5, out);
+        if let Some(refusal) = self.request_refusal(host, &context) {
+            return self.refuse(refusal, out);
         }
         self.ask_read(host, context, query, out)
     }

@@ -3,13 +3,15 @@ ghost use Rattle.run_model.specs.Run.{answer_line, answer_told, answered, applie
 ghost use Rattle.script_run.specs.Cell.{cell_of};
 ghost use Rattle.raft_model.specs.Fit.{are_fit, is_fit};
 ghost use Rattle.wire_codec.specs.Grammar.{are_fit_numbers};
+ghost use Rattle.host_ids.specs.declared.proposal.TheConstants.{MOST_SESSIONS};
 
 use crate::contexts::Contexts;
 use crate::requests::Requests;
 use host_ids::{Entry, Key, NoMemory, Proposal, Text, Verdict};
 use kv_object::Kv;
 use object_model::Ending;
-use run_model::{Line, Told, Tolds, Want};
+use run_model::Want;
+use script_text::{Line, Told, Tolds};
 use session_lru::SessionTable;
 use std::alloc::Global;
 
@@ -26,7 +28,7 @@ impl Cell {
 
     /// A cell without sessions and keys, in which at most `limit`, 1 to 4,096, sessions may stand.
     pub fn new(alloc: Global, limit: u32) -> Result<Cell, NoMemory>
-        requires { (1 ≤ limit) × (limit ≤ 4096) }
+        requires { (1 ≤ limit) × (limit ≤ MOST_SESSIONS) }
         ensures { IfOk result (λ cell. cell_of cell ≡ new_cell limit) }
     {
         Ok(Cell {

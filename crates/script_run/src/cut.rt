@@ -1,5 +1,5 @@
 ghost use Rattle.std.specs.Prelude.{◌≡◌, ◌==◌, ◌+◌, ◌++◌, List, ℕ, [], ◌∷◌, length, position, MatchOption, IfSome};
-ghost use Rattle.run_model.specs.Script.{parts_of};
+ghost use Rattle.script_text.specs.Script.{parts_of};
 ghost use Rattle.script_run.specs.Reach.{HasNoFeed};
 
 fn feed_at(text: &[u8]) -> Option<usize>

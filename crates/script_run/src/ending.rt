@@ -2,11 +2,10 @@ ghost use Rattle.std.specs.Prelude.{◌≡◌, ◌++◌, [], ◌∷◌, OnOk, ma
 ghost use Rattle.run_model.specs.Run.{bare, ending, entry_told, text_of};
 ghost use Rattle.script_run.specs.World.{world_of};
 
-use crate::buffer::Buffer;
-use crate::print::print_line;
 use crate::world::World;
 use host_ids::{Entry, NoMemory, Text};
-use run_model::{Line, Stop};
+use run_model::Stop;
+use script_text::{Buffer, Line, push_line};
 use std::alloc::Global;
 
 /// Prints a line that shows no context.
@@ -14,7 +13,7 @@ pub fn print_bare(alloc: Global, line: Line, out: &mut Buffer) -> Result<(), NoM
     ensures { OnOk result (out.new ≡ out.old ++ text_of (bare line ∷ [])) }
 {
     let context = Text::new(alloc, b"-")?;
-    print_line(out, &context, &line)
+    push_line(out, &context, &line)
 }
 
 /// Prints the line of an entry of the decided list.
@@ -26,7 +25,7 @@ fn print_entry(world: &World, entry: &Entry, out: &mut Buffer) -> Result<(), NoM
         group: 1,
         entry: entry.copy()?,
     };
-    print_line(out, &context, &line)
+    push_line(out, &context, &line)
 }
 
 /// Prints the lines of entries of the decided list.

@@ -12,7 +12,7 @@ use crate::world::World;
 use group_world::Lane;
 use host_ids::{Entry, NoMemory};
 use raft_core::LaneEvent;
-use run_model::{HostEvent, Line, Tolds};
+use script_text::{HostEvent, Line, Refusal, Tolds};
 
 /// The entries of a host's log after what its node was given, at most `most` and none that isn't
 /// ripe.
@@ -23,12 +23,12 @@ fn next_entries<'a>(lane: &'a Lane, host: u8, node: &Node, most: u32) -> &'a [En
     ensures room { node.now.cell.applied + length result.now < 2 ^ 64 }
 {
     let applied = node.applied();
-    let count = u64::from(most).min(lane.ripe(host).saturating_sub(applied));
-    let place = applied.min(lane.last(host)).max(lane.front(host));
-    match place.checked_add(1) {
-        None => &[],
-        Some(first) => lane.entry_slice(host, first, count),
+    let ripe = lane.ripe(host);
+    if ripe <= applied {
+        return &[];
     }
+    let count = u64::from(most).min(ripe - applied);
+    lane.entry_slice(host, applied.max(lane.front(host)) + 1, count)
 }
 
 impl World {
@@ -71,7 +71,7 @@ impl World {
         ensures told { OnOk result (out.new ≡ out.old ++ (arrives (envelope_at (world_of self.old).group.wire number) number (world_of self.old)).told) }
     {
         let to = match self.lane.envelope(number) {
-            None => return self.refuse(9, out),
+            None => return self.refuse(Refusal::NoEnvelope, out),
             Some(envelope) => envelope.to,
         };
         self.core(to, LaneEvent::Deliver { number }, out)
@@ -84,7 +84,7 @@ impl World {
         ensures told { OnOk result (out.new ≡ out.old ++ (deliver number (world_of self.old)).told) }
     {
         if !self.has_group() {
-            return self.refuse(2, out);
+            return self.refuse(Refusal::NoReplica, out);
         }
         self.arrive(number, out)
     }
@@ -96,10 +96,10 @@ impl World {
         ensures world { (show number (world_of self.now)).world ≡ world_of self.now }
     {
         if !self.has_group() {
-            return self.refuse(2, out);
+            return self.refuse(Refusal::NoReplica, out);
         }
         match self.lane.envelope(number) {
-            None => self.refuse(9, out),
+            None => self.refuse(Refusal::NoEnvelope, out),
             Some(envelope) => {
                 let line = Line::Wire {
                     group: 1,
@@ -121,13 +121,13 @@ impl World {
         ensures told { OnOk result (out.new ≡ out.old ++ (lose (world_of self.old)).told) }
     {
         if !self.has_group() {
-            return self.refuse(2, out);
+            return self.refuse(Refusal::NoReplica, out);
         }
         self.settled = self.lane.newest();
         Ok(())
     }
 
-    /// Gives entries of a host's log to its cell, at most so many; idle where none is ripe.
+    /// Gives entries of a host's log to its cell, at most `most`; idle where none is ripe.
     pub fn apply(&mut self, host: u8, most: u32, out: &mut Tolds) -> Result<(), NoMemory>
         requires { host < 10 }
         ensures world { OnOk result (world_of self.new ≡ (apply host most (world_of self.old)).world) }

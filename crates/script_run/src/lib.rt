@@ -4,25 +4,24 @@
 
 mod acting;
 mod asking;
-mod buffer;
 mod cell;
 mod clients;
 mod contexts;
 mod cut;
 mod ending;
 mod events;
-mod grammar;
 mod lines;
 mod node;
 mod notes;
-mod print;
 mod requests;
 mod settle;
+mod status;
 mod stream;
 mod top;
 mod turn;
 mod words;
 mod world;
 
-pub use top::{Status, run_top};
+pub use status::{Finish, Status};
+pub use top::run_top;
 pub use words::words_of;

@@ -1,17 +1,19 @@
 ghost use Rattle.std.specs.Prelude.{◌≡◌, ◌++◌, ◌<◌, ◌≤◌, ◌^◌, true, IfOk, OnOk, length, List, ℕ};
-ghost use Rattle.run_model.specs.Run.{reached, most_bytes, text_of, turn};
-ghost use Rattle.run_model.specs.Script.{is_end};
-ghost use Rattle.script_run.specs.Fit.{is_fit_line};
+ghost use Rattle.run_model.specs.Run.{reached, text_of, turn};
+ghost use Rattle.script_text.specs.Script.{is_end};
+ghost use Rattle.script_text.specs.Fit.{is_fit_line};
 ghost use Rattle.script_run.specs.World.{world_of};
+ghost use Rattle.script_text.specs.declared.limit.TheConstants.{MOST_SCRIPT};
 ghost use Rattle.script_run.specs.Top.{HasGone, place_in};
 
-use crate::buffer::Buffer;
 use crate::cut::first_line;
-use crate::grammar::{read_line, setup_after};
-use crate::print::print_line;
 use crate::world::World;
 use host_ids::NoMemory;
-use run_model::{Limit, ScriptLine, Setup, Stop, Told, Tolds};
+use run_model::Stop;
+use script_text::{
+    Buffer, Limit, LineFault, MOST_LINE, ScriptLine, Setup, Told, Tolds, push_line, read_line,
+    setup_after,
+};
 use std::alloc::Global;
 
 /// A run that is under way: its world, which groups the script has named, and how many lines of how
@@ -42,7 +44,7 @@ pub fn print_all(told: &[Told], out: &mut Buffer) -> Result<(), NoMemory>
     ensures { OnOk result (out.new ≡ out.old ++ text_of told.now) }
 {
     for line in told {
-        print_line(out, &line.context, &line.line)?;
+        push_line(out, &line.context, &line.line)?;
     }
     Ok(())
 }
@@ -74,7 +76,7 @@ pub fn run_whole<'a>(
     out: &mut Buffer,
 ) -> Result<Progress<'a>, NoMemory>
     requires counts { runner.old.lines ≤ runner.old.size }
-    requires below { runner.old.size < most_bytes }
+    requires below { runner.old.size < MOST_SCRIPT }
     requires length { length text.now ≤ 2 ^ 32 }
     ensures { IfOk result (λ progress. HasGone out.old out.new (place_in runner.old) text.now progress (place_in runner.new)) }
 {
@@ -84,11 +86,14 @@ pub fn run_whole<'a>(
             let stop = Stop::Full { limit };
             return Ok(Progress::Stopped { stop });
         }
-        let Some(said) = read_line(alloc, runner.setup, line)? else {
-            let stop = Stop::Bad {
-                line: runner.lines + 1,
-            };
-            return Ok(Progress::Stopped { stop });
+        let number = runner.lines + 1;
+        let said = match read_line(alloc, runner.setup, line, number) {
+            Ok(said) => said,
+            Err(LineFault::BadLine { .. }) => {
+                let stop = Stop::Bad { line: number };
+                return Ok(Progress::Stopped { stop });
+            }
+            Err(LineFault::NoMemory) => return Err(NoMemory),
         };
         if is_end(&said) {
             return Ok(Progress::Stopped { stop: Stop::Ended });
@@ -108,7 +113,7 @@ pub fn run_whole<'a>(
         let stop = Stop::Full { limit };
         return Ok(Progress::Stopped { stop });
     }
-    if rest.len() > 4096 {
+    if rest.len() > MOST_LINE {
         let stop = Stop::Bad {
             line: runner.lines + 1,
         };

@@ -2,12 +2,14 @@ ghost use Rattle.std.specs.Prelude.{◌≡◌, ◌++◌, ◌+◌, ◌<◌, ◌�
 ghost use Rattle.raft_model.specs.Fit.{are_fit};
 ghost use Rattle.run_model.specs.World.{new_node};
 ghost use Rattle.run_model.specs.Run.{answer_line, answers_due, applied, awaits, fed, joined};
+ghost use Rattle.host_ids.specs.declared.proposal.TheConstants.{MOST_SESSIONS};
 
 use crate::cell::{Cell, answer_all, answer_line, apply_all};
 use crate::contexts::Contexts;
 use crate::requests::Requests;
 use host_ids::{Entry, Key, NoMemory, Text};
-use run_model::{Line, Tolds, Want};
+use run_model::Want;
+use script_text::{Line, Tolds};
 use std::alloc::Global;
 use std::marker::Model;
 
@@ -32,7 +34,7 @@ impl Node {
     /// A node that was given no entries and was asked nothing. At most `limit`, 1 to 4,096, sessions
     /// may stand in its cell.
     pub fn new(alloc: Global, limit: u32) -> Result<Node, NoMemory>
-        requires { (1 ≤ limit) × (limit ≤ 4096) }
+        requires { (1 ≤ limit) × (limit ≤ MOST_SESSIONS) }
         ensures { IfOk result (λ node. node ≡ new_node limit) }
     {
         Ok(Node {
@@ -62,7 +64,7 @@ impl Node {
         self.requests.join(key, want)
     }
 
-    /// An open read waits until so many entries are applied.
+    /// An open read waits until its front is applied.
     pub fn wait(&mut self, key: Key, front: u64) -> Result<(), NoMemory>
         ensures { OnOk result (self.new ≡ record self.old { requests = record self.old.requests { waiting = awaits (Some front) key self.old.requests.waiting } }) }
     {

@@ -5,7 +5,7 @@ ghost use Rattle.run_model.specs.Run.{confirmed_index, drops, is_dropped, kind_o
 use crate::cell::tell;
 use host_ids::NoMemory;
 use raft_core::Note;
-use run_model::{EnvelopeKind, Line, Tolds};
+use script_text::{EnvelopeKind, Line, Tolds};
 use std::alloc::Global;
 use wire_codec::Body;
 

@@ -49,7 +49,7 @@ impl Requests {
         Ok(())
     }
 
-    /// A read waits until so many places are applied.
+    /// A read waits until its front is applied.
     pub fn wait(&mut self, key: Key, front: u64) -> Result<(), NoMemory>
         ensures { OnOk result (self.new ≡ record self.old { waiting = awaits (Some front) key self.old.waiting }) }
     {

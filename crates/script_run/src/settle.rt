@@ -6,9 +6,9 @@ ghost use Rattle.script_run.specs.World.{world_of};
 
 use crate::world::World;
 use host_ids::NoMemory;
-use run_model::{Limit, Tolds};
+use script_text::{Limit, MOST_APPLIED, Refusal, Tolds};
 
-/// A settle has at most so many rounds.
+/// A settle has at most this number of rounds.
 const MOST_ROUNDS: u32 = 64;
 
 impl World {
@@ -114,7 +114,7 @@ impl World {
         match self.reached(size) {
             Some(limit) => Ok(Some(limit)),
             None => {
-                self.apply(host, 200_000, out)?;
+                self.apply(host, MOST_APPLIED, out)?;
                 Ok(None)
             }
         }
@@ -209,7 +209,7 @@ impl World {
         Ok(None)
     }
 
-    /// The line `settle`, where the lines that were read have so many bytes with it. Answers the
+    /// The line `settle`, where the lines that were read have `size` bytes with it. Answers the
     /// limit that was reached in it.
     #[tactic(auto, unfolding(run_model::specs::Run::settles))]
     pub fn settle(&mut self, size: usize, out: &mut Tolds) -> Result<Option<Limit>, NoMemory>
@@ -218,7 +218,7 @@ impl World {
         ensures full { IfOk result (λ full. full ≡ (settles size (world_of self.old)).full) }
     {
         if !self.has_group() {
-            self.refuse(2, out)?;
+            self.refuse(Refusal::NoReplica, out)?;
             return Ok(None);
         }
         self.rounds(size, out)

@@ -6,13 +6,13 @@ ghost use Rattle.script_run.specs.World.{world_of};
 ghost use Rattle.script_run.specs.Top.{HasStreamed};
 ghost use Rattle.script_run.specs.Reach.{GivenUp};
 
-use crate::buffer::Buffer;
 use crate::lines::{Progress, Runner, run_whole};
 use fault_io::{IoFault, Sink, Source, put_all};
-use run_model::{Setup, Stop};
+use run_model::Stop;
+use script_text::{Buffer, Setup};
 use std::alloc::Global;
 
-/// How a run over a source ended: by its lines, of which so much isn't put yet, at the end of the
+/// How a run over a source ended: by its lines, of which `out` isn't put yet, at the end of the
 /// source, or by a fault of the source.
 #[derive(Drop)]
 pub enum Streamed {

@@ -1,37 +1,28 @@
 ghost use Rattle.std.specs.Prelude.{◌≡◌, ◌≢◌, ◌≤◌, true, false};
 ghost use Rattle.fault_io.specs.Faults.{Rose};
-ghost use Rattle.script_run.specs.Top.{is_run, status_of, HasPut, Ran, IsLegalRun, Takes, Finished, usage};
+ghost use Rattle.script_run.specs.Top.{is_run, finish_of, HasPut, Ran, IsLegalRun, Takes, Finished, usage};
 ghost use Rattle.script_run.specs.World.{world_of};
 
-use crate::buffer::Buffer;
 use crate::ending::print_ending;
 use crate::lines::Runner;
+use crate::status::{Finish, Status};
 use crate::stream::{Streamed, run_stream};
 use crate::world::World;
 use fault_io::{IoFault, Sink, Source, put_all};
 use host_ids::Text;
 use run_law::{runs_are_legal, scripts_end};
-use run_model::{Setup, Stop};
+use run_model::Stop;
+use script_text::{Buffer, Setup};
 use std::alloc::Global;
 
-/// How a call of the program ended.
-///
-/// 0: the script came to its `end`. 2: the words were no form of the program. 3: a line is bad, or
-/// the last one isn't whole. 4: the source failed. 5: the sink failed. 7: a limit was reached. 8:
-/// memory ran out. Source: this project's own.
-#[derive(Clone, Copy, Debug, PartialEq, Eq)]
-pub struct Status {
-    /// The number, as a process gives it.
-    pub number: u8,
-}
-
-fn status_of(stop: Stop) -> u8
-    ensures { result ≡ status_of stop }
+/// What the stop of a run comes to.
+fn finish_of(stop: Stop) -> Finish
+    ensures { result ≡ finish_of stop }
 {
     match stop {
-        Stop::Ended => 0,
-        Stop::Bad { .. } | Stop::Spent { .. } => 3,
-        Stop::Full { .. } => 7,
+        Stop::Ended => Finish::Done,
+        Stop::Bad { .. } | Stop::Spent { .. } => Finish::BadLine,
+        Stop::Full { .. } => Finish::Limit,
     }
 }
 
@@ -52,8 +43,8 @@ fn put_last<K: Sink>(sink: &mut K, bytes: &[u8], number: u8) -> Status
 {
     let number = match put_all(sink, bytes) {
         Ok(()) => number,
-        Err(IoFault::Failed) => 5,
-        Err(IoFault::NoMemory) => 8,
+        Err(IoFault::Failed) => Finish::WriteFault.number(),
+        Err(IoFault::NoMemory) => Finish::NoMemory.number(),
     };
     Status { number }
 }
@@ -71,9 +62,9 @@ fn finish<K: Sink>(
     ensures later { K.fault_count sink.old ≤ K.fault_count sink.new }
 {
     if print_ending(alloc, stop, world, &mut out).is_err() {
-        return Status { number: 8 };
+        return Finish::NoMemory.status();
     }
-    put_last(sink, out.bytes(), status_of(stop))
+    put_last(sink, out.bytes(), finish_of(stop).number())
 }
 
 /// Runs a script.
@@ -88,7 +79,7 @@ fn run_script<S: Source, K: Sink>(alloc: Global, source: &mut S, sink: &mut K) -
     runs_are_legal();
     scripts_end();
     let Ok(world) = World::new(alloc) else {
-        return Status { number: 8 };
+        return Finish::NoMemory.status();
     };
     let mut runner = Runner {
         world,
@@ -102,9 +93,9 @@ fn run_script<S: Source, K: Sink>(alloc: Global, source: &mut S, sink: &mut K) -
             let out = Buffer::new(alloc);
             finish(alloc, Stop::Spent { line }, &runner.world, out, sink)
         }
-        Ok(Streamed::Faulted { .. }) => Status { number: 4 },
-        Err(IoFault::Failed) => Status { number: 5 },
-        Err(IoFault::NoMemory) => Status { number: 8 },
+        Ok(Streamed::Faulted { .. }) => Finish::ReadFault.status(),
+        Err(IoFault::Failed) => Finish::WriteFault.status(),
+        Err(IoFault::NoMemory) => Finish::NoMemory.status(),
     }
 }
 
@@ -146,7 +137,7 @@ pub fn run_top<S: Source, K: Sink>(
     ensures write_fault { result.number ≡ 5 → Rose (K.fault_count sink.old) (K.fault_count sink.new) }
 {
     if !is_run(words) {
-        return put_last(sink, b"usage\n", 2);
+        return put_last(sink, b"usage\n", Finish::Usage.number());
     }
     run_script(alloc, source, sink)
 }

@@ -2,11 +2,13 @@ ghost use Rattle.std.specs.Prelude.{◌≡◌, ◌≤◌, ◌<◌, ◌++◌, tru
 ghost use Rattle.std.specs.List.{list_all};
 ghost use Rattle.run_model.specs.World.{is_declared, new_node, start};
 ghost use Rattle.run_model.specs.Run.{asks, at_replica, declare, event_step, group, grouped, turn};
-ghost use Rattle.script_run.specs.Fit.{is_ask, is_fit_limit, is_fit_line, is_fit_roster};
+ghost use Rattle.script_run.specs.Fit.{is_ask};
+ghost use Rattle.script_text.specs.Fit.{is_fit_limit, is_fit_line, is_fit_roster};
 ghost use Rattle.wire_codec.specs.Grammar.{is_host};
 ghost use Rattle.raft_model.specs.Group.{fresh_group};
 ghost use Rattle.raft_model.specs.Saving.{payload};
 ghost use Rattle.script_run.specs.World.{world_of};
+ghost use Rattle.host_ids.specs.declared.proposal.TheConstants.{MOST_SESSIONS};
 
 use crate::cell::tell;
 use crate::clients::Clients;
@@ -14,16 +16,13 @@ use crate::contexts::Contexts;
 use crate::node::Node;
 use crate::world::World;
 use group_world::Lane;
-use host_ids::{NoMemory, Proposal, Text};
-use run_model::{HostEvent, Limit, Line, ScriptLine, Tolds};
+use host_ids::{MOST_SESSIONS, NoMemory, Proposal, Text};
+use script_text::{HostEvent, Limit, Line, Refusal, ScriptLine, Tolds};
 use std::alloc::Global;
-
-/// A group without a limit of its own has this one of sessions.
-const MOST_SESSIONS: u32 = 4096;
 
 /// The table of nodes that were given no entries and were asked nothing.
 fn new_nodes(alloc: Global, limit: u32) -> Result<Vec<Node>, NoMemory>
-    requires { (1 ≤ limit) × (limit ≤ 4096) }
+    requires { (1 ≤ limit) × (limit ≤ MOST_SESSIONS) }
     ensures { IfOk result (λ nodes. nodes.items ≡ replicate 10 (new_node limit)) }
 {
     let mut nodes = Vec::new(alloc);
@@ -80,7 +79,7 @@ impl World {
         ensures told { OnOk result (out.new ≡ out.old ++ (declare host (world_of self.old)).told) }
     {
         if self.is_declared(host) {
-            return self.refuse(13, out);
+            return self.refuse(Refusal::Declared, out);
         }
         self.declared[host as usize] = true;
         tell(self.alloc, Line::Started { host, start: 1 }, out)
@@ -114,7 +113,7 @@ impl World {
     #[tactic(auto, unfolding(run_model::specs::Run::grouped))]
     fn make(&mut self, roster: &[u8], limit: u32) -> Result<(), NoMemory>
         requires roster { is_fit_roster roster.now ≡ true }
-        requires limit { (1 ≤ limit) × (limit ≤ 4096) }
+        requires limit { (1 ≤ limit) × (limit ≤ MOST_SESSIONS) }
         ensures { OnOk result (world_of self.new ≡ grouped roster.now limit (world_of self.old)) }
     {
         let lane = new_lane(self.alloc, roster)?;
@@ -133,10 +132,10 @@ impl World {
         ensures told { OnOk result (out.new ≡ out.old ++ (group roster.now limit (world_of self.old)).told) }
     {
         if !self.are_declared(roster) {
-            return self.refuse(1, out);
+            return self.refuse(Refusal::NotDeclared, out);
         }
         if self.has_group() {
-            return self.refuse(13, out);
+            return self.refuse(Refusal::Declared, out);
         }
         self.make(roster, limit.unwrap_or(MOST_SESSIONS))
     }
@@ -148,10 +147,10 @@ impl World {
         ensures told { OnOk result (out.new ≡ out.old ++ (at_replica host (world_of self.old) (event_step host event (world_of self.old))).told) }
     {
         if !self.is_declared(host) {
-            return self.refuse(1, out);
+            return self.refuse(Refusal::NotDeclared, out);
         }
         if !self.is_voter(host) {
-            return self.refuse(2, out);
+            return self.refuse(Refusal::NoReplica, out);
         }
         self.event(host, event, out)
     }
@@ -174,7 +173,7 @@ impl World {
         self.ask(host, context, length, proposal, out)
     }
 
-    /// Does what a line of the script says, where the lines that were read have so many bytes with
+    /// Does what a line of the script says, where the lines that were read have `size` bytes with
     /// it, and tells its lines. Answers the limit that was reached before one of its events.
     #[tactic(auto, unfolding(run_model::specs::Run::turn))]
     pub fn turn(

@@ -12,7 +12,7 @@ use std::alloc::Global;
 /// requests and sessions.
 ///
 /// A table has ten places, one for each number of a host. After `NoMemory` in an event of the core
-/// a world is broken, and only to be dropped. Else all voters are hosts.
+/// a world is broken, and can only be dropped. Else all voters are hosts.
 #[derive(Drop)]
 pub struct World {
     pub(crate) alloc: Global,

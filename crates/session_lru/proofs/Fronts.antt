@@ -1,6 +1,7 @@
 -- Replies read so far, in front of those that come.
 use Rattle.std.proofs.Common.{◌≡◌, ℕ, suc, ◌-◌, ◌<◌, ◌≤◌, List, [], ◌∷◌, ◌++◌, true, Result, Ok, Err, length, drop, refl, sym, ap, ◌∙◌, subst, arith, append-nil, length-append, ◌^◌}
-use Rattle.session_lru.specs.Section.{most_series, are_replies, Rest, with_first, read_replies}
+use Rattle.host_ids.specs.declared.proposal.TheConstants.{MOST_SERIES}
+use Rattle.session_lru.specs.Section.{are_replies, Rest, with_first, read_replies}
 use Rattle.session_lru.proofs.Sublists.{last_of, last_added, added}
 
 abbrev pub with_front : {A : Type 0} → List A → Result (Rest (List A)) ℕ → Result (Rest (List A)) ℕ
@@ -52,7 +53,7 @@ none_more bytes at responded count replies before next read place s h e =
 
 pub one_read : (bytes : List ℕ) (at responded count : ℕ) (replies : List (ℕ × List ℕ)) (before next read : ℕ) (x : ℕ × List ℕ) (then : ℕ) → ReadSoFar bytes at responded count replies before next read → read < count
     → read_replies (suc (count - suc read)) before next (drop next bytes) ≡ with_first x (read_replies (count - suc read) x.0 then (drop then bytes))
-    → then ≤ length bytes → before < x.0 → x.0 ≤ most_series → length x.1 < 2 ^ 16
+    → then ≤ length bytes → before < x.0 → x.0 ≤ MOST_SERIES → length x.1 < 2 ^ 16
     → ReadSoFar bytes at responded count (replies ++ x ∷ []) x.0 then (suc read)
 one_read bytes at responded count replies before next read x then s h e within above most short = record {
   within = within;

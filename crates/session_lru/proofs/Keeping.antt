@@ -6,6 +6,7 @@ use Rattle.std.proofs.lemmas.Bool.Decides.{nat_tests}
 use Rattle.host_ids.specs.declared.proposal.Proposal.{Proposal}
 use Rattle.host_ids.specs.declared.proposal.Proposal.TheVariants as proposals
 use Rattle.host_ids.specs.declared.verdict.Verdict.TheVariants as verdicts
+use Rattle.host_ids.specs.declared.proposal.TheConstants.{MOST_COMMAND}
 use Rattle.object_model.specs.Object.{after}
 use Rattle.object_model.specs.Sequence.{verdict, command_verdict, does_act, state}
 use Rattle.session_lru.specs.declared.session.Session.{Session}
@@ -32,7 +33,7 @@ acts_new bound series None e = refl
 acts_new bound series (Some reply) e = absurd (elim (nat_le series bound) as (λ b. cond b verdicts.Responded (verdicts.RepeatOf reply) ≢ verdicts.Acts) [ true ↦ λ q. cc | false ↦ λ q. cc ] e)
 
 -- its reply may be kept
-may_by : (client series responded : ℕ) (reply : List ℕ) (t : Table) (x : Session) → admit_verdict (Some x) series responded ≡ verdicts.Acts → length reply ≤ 512 → MayKeep client series reply (admitted client responded (Some x) t)
+may_by : (client series responded : ℕ) (reply : List ℕ) (t : Table) (x : Session) → admit_verdict (Some x) series responded ≡ verdicts.Acts → length reply ≤ MOST_COMMAND → MayKeep client series reply (admitted client responded (Some x) t)
 may_by client series responded reply t x acts short =
     let own = turned client client true (same_client client) in
     let m : ℕ = max x.responded responded in
@@ -46,7 +47,7 @@ may_by client series responded reply t x acts short =
       short = short;
     }
 
-pub may_keep : (client series responded : ℕ) (reply : List ℕ) (t : Table) → admit_verdict (session_of client t) series responded ≡ verdicts.Acts → length reply ≤ 512 → MayKeep client series reply (admitted client responded (session_of client t) t)
+pub may_keep : (client series responded : ℕ) (reply : List ℕ) (t : Table) → admit_verdict (session_of client t) series responded ≡ verdicts.Acts → length reply ≤ MOST_COMMAND → MayKeep client series reply (admitted client responded (session_of client t) t)
 may_keep client series responded reply t acts short =
     elim (session_of client t) as (λ o. admit_verdict o series responded ≡ verdicts.Acts → MayKeep client series reply (admitted client responded o t))
     [ None ↦ λ e. absurd cc | Some x ↦ λ e. may_by client series responded reply t x e short ] acts

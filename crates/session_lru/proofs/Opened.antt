@@ -7,13 +7,14 @@ use Rattle.std.specs.Int.{from_be_bytes, to_be_bytes, w16, w32, w64}
 use Rattle.std.proofs.lemmas.Bool.{leb-true, ltb-true, lt-ltb, and_from, not_from_false}
 use Rattle.std.proofs.lemmas.List.{reverse-reverse, length-reverse, take-append-drop, length-take}
 use Rattle.std.proofs.lemmas.Nat.{be_bytes_2, be_bytes_4, be_bytes_8}
+use Rattle.host_ids.specs.declared.proposal.TheConstants.{MOST_SERIES, MOST_SESSIONS}
 use Rattle.byteorder.specs.Endian.{big_number}
 use Rattle.byteorder.specs.Numbers.{big_from-lt}
 use Rattle.session_lru.specs.declared.session.Session.{Session}
 use Rattle.session_lru.specs.Table.{Table}
-use Rattle.session_lru.specs.Section.{most_series, reply_bytes, session_bytes, section, are_replies, is_session, has_client, all_differ, is_table, anything, Rest, with_first, with_limit, then_replies, is_series, is_client, is_responded, is_limit, read_replies, read_sessions, AreBytes, SpellsOne}
+use Rattle.session_lru.specs.Section.{reply_bytes, session_bytes, section, are_replies, is_session, has_client, all_differ, is_table, anything, Rest, with_first, with_limit, then_replies, is_series, is_client, is_responded, is_limit, read_replies, read_sessions, AreBytes, SpellsOne}
 use Rattle.session_lru.proofs.Fields.{field_ok, number_2, number_4, number_8}
-use Rattle.session_lru.proofs.Steps.{behind_text, behind_size, behind_series, session_read, behind_replies, behind_count, behind_responded, behind_client, behind_number, behind_limit, whole_section}
+use Rattle.session_lru.proofs.Steps.{beyond_text, beyond_size, beyond_series, session_read, beyond_replies, beyond_count, beyond_responded, beyond_client, beyond_number, beyond_limit, whole_section}
 use Rattle.session_lru.proofs.Parts.{and_left, and_right, not_true, reply_of_parts, session_of_parts, table_of_parts}
 use Rattle.session_lru.proofs.Written.{reply_shape, session_shape, NewTo, all_back}
 
@@ -82,23 +83,23 @@ replies_read zero before at bytes r a h =
     let same : record { value = []; at = at; bytes = bytes } ≡ r = cc in
     subst (λ (q : Rest (List (ℕ × List ℕ))). RepliesRead zero before bytes q) same (record { counted = refl; good = refl; spelt = refl; left = a })
 replies_read (suc n) before at bytes r a h =
-    let f = field_ok at 8 (is_series before) (λ s m. behind_series n at s m) bytes r h in
+    let f = field_ok at 8 (is_series before) (λ s m. beyond_series n at s m) bytes r h in
     let series : List ℕ = take 8 bytes in
     let more : List ℕ = drop 8 bytes in
-    let g = field_ok (at + 8) 2 anything (λ s m. behind_size n at series s m) more r f.goes in
+    let g = field_ok (at + 8) 2 anything (λ s m. beyond_size n at series s m) more r f.goes in
     let k : ℕ = from_be_bytes w16 (take 2 more) in
-    let behind : List ℕ = drop 2 more in
-    let t = field_ok (at + 10) k anything (λ s m. behind_text n at series s m) behind r g.goes in
-    let text : List ℕ = take k behind in
-    let rest : List ℕ = drop k behind in
+    let beyond : List ℕ = drop 2 more in
+    let t = field_ok (at + 10) k anything (λ s m. beyond_text n at series s m) beyond r g.goes in
+    let text : List ℕ = take k beyond in
+    let rest : List ℕ = drop k beyond in
     let first : ℕ × List ℕ = (from_be_bytes w64 series, text) in
     let w = first_ok first (read_replies n (from_be_bytes w64 series) (at + 10 + length text) rest) r t.goes in
     let am = bytes_drop 8 bytes a in
-    let ar = bytes_drop k behind (bytes_drop 2 more am) in
+    let ar = bytes_drop k beyond (bytes_drop 2 more am) in
     let ih = replies_read n (from_be_bytes w64 series) (at + 10 + length text) rest w.0 ar w.1 in
-    let size = taken k behind t.there in
+    let size = taken k beyond t.there in
     let above = ltb-true before (from_be_bytes w64 series) (and_left (nat_lt before (from_be_bytes w64 series)) _ f.passes) in
-    let most = leb-true (from_be_bytes w64 series) most_series (and_right (nat_lt before (from_be_bytes w64 series)) _ f.passes) in
+    let most = leb-true (from_be_bytes w64 series) MOST_SERIES (and_right (nat_lt before (from_be_bytes w64 series)) _ f.passes) in
     let small = fits_2 more am in
     subst (λ (q : Rest (List (ℕ × List ℕ))). RepliesRead (suc n) before bytes q) w.2 (record {
       counted = ap suc ih.counted;
@@ -139,26 +140,26 @@ sessions_read zero before at [] after a h =
     record { read = []; counted = refl; good = refl; new = tt; spelt = refl; is = same }
 sessions_read zero before at (b ∷ bytes) after a h = absurd cc
 sessions_read (suc n) before at bytes after a h =
-    let f = field_ok at 8 (is_client before) (λ s m. behind_client n before at s m) bytes after h in
+    let f = field_ok at 8 (is_client before) (λ s m. beyond_client n before at s m) bytes after h in
     let client : List ℕ = take 8 bytes in
     let more : List ℕ = drop 8 bytes in
-    let g = field_ok (at + 8) 8 is_responded (λ s m. behind_responded n before at client s m) more after f.goes in
+    let g = field_ok (at + 8) 8 is_responded (λ s m. beyond_responded n before at client s m) more after f.goes in
     let responded : List ℕ = take 8 more in
-    let behind : List ℕ = drop 8 more in
-    let k = field_ok (at + 16) 4 anything (λ s m. behind_count n before at client responded s m) behind after g.goes in
-    let count : List ℕ = take 4 behind in
-    let rest : List ℕ = drop 4 behind in
-    let t = then_ok (read_replies (from_be_bytes w32 count) (from_be_bytes w64 responded) (at + 20) rest) (λ replies next left. behind_replies n before client responded replies next left) after k.goes in
+    let beyond : List ℕ = drop 8 more in
+    let k = field_ok (at + 16) 4 anything (λ s m. beyond_count n before at client responded s m) beyond after g.goes in
+    let count : List ℕ = take 4 beyond in
+    let rest : List ℕ = drop 4 beyond in
+    let t = then_ok (read_replies (from_be_bytes w32 count) (from_be_bytes w64 responded) (at + 20) rest) (λ replies next left. beyond_replies n before client responded replies next left) after k.goes in
     let am = bytes_drop 8 bytes a in
     let ab = bytes_drop 8 more am in
-    let ar = bytes_drop 4 behind ab in
+    let ar = bytes_drop 4 beyond ab in
     let r = replies_read (from_be_bytes w32 count) (from_be_bytes w64 responded) (at + 20) rest t.0 ar t.1 in
     let first : ℕ × Session = session_read client responded (t.0).value in
     let ih = sessions_read n (first ∷ before) (t.0).at (t.0).bytes after r.left t.2 in
     let one = leb-true 1 first.0 (and_left (nat_le 1 first.0) _ f.passes) in
-    let most = leb-true (first.1).responded most_series g.passes in
+    let most = leb-true (first.1).responded MOST_SERIES g.passes in
     let counts = r.counted in
-    let small = fits_4 behind ab in
+    let small = fits_4 beyond ab in
     record {
       read = first ∷ ih.read;
       counted = ap suc ih.counted;
@@ -167,7 +168,7 @@ sessions_read (suc n) before at bytes after a h =
       spelt = four_parts bytes
           ∙ ap (λ (l : List ℕ). l ++ (responded ++ (count ++ rest))) (sym (spelt_8 bytes first.0 a f.there refl))
           ∙ ap (λ (l : List ℕ). to_be_bytes w64 first.0 ++ (l ++ (count ++ rest))) (sym (spelt_8 more (first.1).responded am g.there refl))
-          ∙ ap (λ (l : List ℕ). to_be_bytes w64 first.0 ++ (to_be_bytes w64 (first.1).responded ++ (l ++ rest))) (sym (spelt_4 behind (length (t.0).value) ab k.there counts))
+          ∙ ap (λ (l : List ℕ). to_be_bytes w64 first.0 ++ (to_be_bytes w64 (first.1).responded ++ (l ++ rest))) (sym (spelt_4 beyond (length (t.0).value) ab k.there counts))
           ∙ ap (λ (l : List ℕ). to_be_bytes w64 first.0 ++ (to_be_bytes w64 (first.1).responded ++ (to_be_bytes w32 (length (t.0).value) ++ l))) r.spelt
           ∙ sym (session_shape n before at first (t.0).bytes)
           ∙ ap (λ (l : List ℕ). session_bytes first ++ l) ih.spelt;
@@ -190,11 +191,11 @@ two_parts bytes = sym (take-append-drop 4 bytes) ∙ ap (λ (l : List ℕ). take
 
 pub spells_one : SpellsOne
 spells_one bytes t a h =
-    let f = field_ok 0 4 is_limit (λ s m. behind_limit s m) bytes t (sym (whole_section bytes) ∙ h) in
+    let f = field_ok 0 4 is_limit (λ s m. beyond_limit s m) bytes t (sym (whole_section bytes) ∙ h) in
     let limit : List ℕ = take 4 bytes in
     let more : List ℕ = drop 4 bytes in
     let most : ℕ = from_be_bytes w32 limit in
-    let g = field_ok 4 4 (λ x. nat_le (from_be_bytes w32 x) most) (λ s m. behind_number limit s m) more t f.goes in
+    let g = field_ok 4 4 (λ x. nat_le (from_be_bytes w32 x) most) (λ s m. beyond_number limit s m) more t f.goes in
     let count : List ℕ = take 4 more in
     let rest : List ℕ = drop 4 more in
     let am = bytes_drop 4 bytes a in
@@ -206,7 +207,7 @@ spells_one bytes t a h =
     subst (λ (x : Table). (is_table x ≡ true) × (bytes ≡ section x)) w.2 (
       table_of_parts (record { limit = most; sessions = w.0 }) (record {
         one = leb-true 1 most (and_left (nat_le 1 most) _ f.passes);
-        most = leb-true most 4096 (and_right (nat_le 1 most) _ f.passes);
+        most = leb-true most MOST_SESSIONS (and_right (nat_le 1 most) _ f.passes);
         within = omega (arith, counted, few);
         sessions = subst (λ (x : List (ℕ × Session)). list_all is_session x ≡ true) s.is (all_back s.read [] s.good refl);
         differ = subst (λ (x : List (ℕ × Session)). all_differ x ≡ true) s.is (differ_back s.read [] s.new refl);

@@ -51,7 +51,7 @@ shorter_without client (c ∷ cs) e =
 
 -- ---- after a proposal
 
--- clients that stand in an order: none twice, and at most so many
+-- clients that stand in an order: none twice, and at most `limit`
 pub record Orderly (limit : ℕ) (cs : List ℕ) : Type 0 where
   pub apart : Apart cs
   pub within : length cs ≤ limit
@@ -101,17 +101,17 @@ orderly limit (p ∷ h) one = after_one limit p (standing limit h) one (orderly 
 
 -- ---- room, from the back
 
-behind_one : (a b : List ℕ) → length a ≡ 1 → drop 1 (a ++ b) ≡ b
-behind_one [] b e = absurd (omega (arith, e))
-behind_one (x ∷ []) b e = refl
-behind_one (x ∷ y ∷ a) b e = absurd (omega (arith, e))
+beyond_one : (a b : List ℕ) → length a ≡ 1 → drop 1 (a ++ b) ≡ b
+beyond_one [] b e = absurd (omega (arith, e))
+beyond_one (x ∷ []) b e = refl
+beyond_one (x ∷ y ∷ a) b e = absurd (omega (arith, e))
 
 -- the first of a list from the back is its last one
 drop_last : (n : ℕ) (cs : List ℕ) → length cs ≡ n + 1 → drop 1 (reverse cs) ≡ reverse (take n cs)
 drop_last n cs h =
     let one : length (drop n cs) ≡ 1 = rw (length-drop n cs, h) (omega arith) in
     let whole : reverse cs ≡ reverse (drop n cs) ++ reverse (take n cs) = ap reverse (sym (take-append-drop n cs)) ∙ reverse-append (take n cs) (drop n cs) in
-    rw whole (behind_one (reverse (drop n cs)) (reverse (take n cs)) (length-reverse (drop n cs) ∙ one))
+    rw whole (beyond_one (reverse (drop n cs)) (reverse (take n cs)) (length-reverse (drop n cs) ∙ one))
 
 -- room for one more, in the order of the last touch and from the back
 pub room : (limit : ℕ) (cs : List ℕ) → 1 ≤ limit → length cs ≤ limit → with_room limit (reverse cs) ≡ reverse (take (limit - 1) cs)

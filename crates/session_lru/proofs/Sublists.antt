@@ -10,7 +10,8 @@ use Rattle.std.proofs.lemmas.Bool.{and_from, lt-ltb}
 use Rattle.std.proofs.lemmas.Bool.Decides.{nat_tests}
 use Rattle.std.proofs.lemmas.Cmp.{ranked}
 use Rattle.std.specs.Cmp.{nat_cmp_is}
-use Rattle.session_lru.specs.Section.{most_series, are_replies, is_short}
+use Rattle.host_ids.specs.declared.proposal.TheConstants.{MOST_SERIES}
+use Rattle.session_lru.specs.Section.{are_replies, is_short}
 use Rattle.session_lru.proofs.Parts.{IsReply, reply_parts, reply_of_parts}
 
 -- replies above a series are above a smaller one
@@ -49,7 +50,7 @@ length_filtered test (e ∷ es) =
 
 -- ---- one added
 
-module _ (series : ℕ) (reply : List ℕ) (most : series ≤ most_series) (short : length reply < 2 ^ 16) where
+module _ (series : ℕ) (reply : List ℕ) (most : series ≤ MOST_SERIES) (short : length reply < 2 ^ 16) where
   insert_by : (before : ℕ) (e : ℕ × List ℕ) (es : List (ℕ × List ℕ)) (r : Ordering) → r ≡ nat_cmp series e.0 → before < series → IsReply before e es
       → are_replies e.0 (cond (nat_lt e.0 series) (insert_entry nat_cmp es series reply) es) ≡ true
       → are_replies before (match_ordering r ((series, reply) ∷ e ∷ es) ((e.0, reply) ∷ es) (e ∷ insert_entry nat_cmp es series reply)) ≡ true
@@ -62,7 +63,7 @@ module _ (series : ℕ) (reply : List ℕ) (most : series ≤ most_series) (shor
       })
   insert_by before e es Equal q l p rest = reply_of_parts before (e.0, reply) es (record { above = p.above; most = p.most; short = short; rest = p.rest })
   insert_by before e es Greater q l p rest =
-      let behind : e.0 < series = ranked series e.0 Greater q in
+      let beyond : e.0 < series = ranked series e.0 Greater q in
       let test : nat_lt e.0 series ≡ true = grind (arith, nat_tests) in
       reply_of_parts before e (insert_entry nat_cmp es series reply) (record {
         above = p.above;
@@ -104,7 +105,7 @@ pub last_added : (before : ℕ) (es : List (ℕ × List ℕ)) (x : ℕ × List �
 last_added before [] x = refl
 last_added before (e ∷ es) x = last_added e.0 es x
 
-pub added : (before : ℕ) (es : List (ℕ × List ℕ)) (x : ℕ × List ℕ) → are_replies before es ≡ true → last_of before es < x.0 → x.0 ≤ most_series → length x.1 < 2 ^ 16 → are_replies before (es ++ x ∷ []) ≡ true
+pub added : (before : ℕ) (es : List (ℕ × List ℕ)) (x : ℕ × List ℕ) → are_replies before es ≡ true → last_of before es < x.0 → x.0 ≤ MOST_SERIES → length x.1 < 2 ^ 16 → are_replies before (es ++ x ∷ []) ≡ true
 added before [] x h l m s = reply_of_parts before x [] (record { above = l; most = m; short = s; rest = refl })
 added before (e ∷ es) x h l m s =
     let p = reply_parts before e es h in
@@ -115,8 +116,8 @@ inserted_last before series reply [] h l = refl
 inserted_last before series reply (e ∷ es) h l =
     let p = reply_parts before e es h in
     let to = to_last e.0 es p.rest in
-    let behind : e.0 < series = omega (arith, to, l) in
-    let r : Greater ≡ nat_cmp series e.0 = nat_cmp_is series e.0 Greater behind in
+    let beyond : e.0 < series = omega (arith, to, l) in
+    let r : Greater ≡ nat_cmp series e.0 = nat_cmp_is series e.0 Greater beyond in
     rw (sym r, inserted_last e.0 series reply es p.rest l) refl
 
 -- replies that are some are short

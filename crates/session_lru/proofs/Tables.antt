@@ -7,10 +7,11 @@ use Rattle.std.specs.Map.{lookup, remove_entry, set_value}
 use Rattle.std.proofs.lemmas.Bool.{and_from, not_from_false}
 use Rattle.std.proofs.lemmas.Bool.Decides.{nat_tests}
 use Rattle.std.proofs.lemmas.List.{length-take, take_all}
+use Rattle.host_ids.specs.declared.proposal.TheConstants.{MOST_COMMAND, MOST_SERIES}
 use Rattle.session_lru.specs.declared.session.Session.{Session}
 use Rattle.session_lru.specs.Table.{Table}
 use Rattle.session_lru.specs.Calls.{session_of, fresh, registered, closed, admitted, raised_to, with_reply}
-use Rattle.session_lru.specs.Section.{most_series, is_session, has_client, all_differ, is_table}
+use Rattle.session_lru.specs.Section.{is_session, has_client, all_differ, is_table}
 use Rattle.session_lru.proofs.Parts.{and_left, and_right, not_true, session_parts, session_of_parts, table_parts, table_of_parts}
 use Rattle.session_lru.proofs.Sublists.{filtered_above, length_filtered, inserted, length_inserted}
 
@@ -157,7 +158,7 @@ closed_table client t h =
       differ = differ_removed (nat_eq client) t.sessions p.differ;
     })
 
-raised_session : (client responded : ℕ) (s : Session) → is_session (client, s) ≡ true → responded ≤ most_series → is_session (client, raised_to responded s) ≡ true
+raised_session : (client responded : ℕ) (s : Session) → is_session (client, s) ≡ true → responded ≤ MOST_SERIES → is_session (client, raised_to responded s) ≡ true
 raised_session client responded s h m =
     let p = session_parts (client, s) h in
     let q = p.most in
@@ -171,7 +172,7 @@ raised_session client responded s h m =
       few = omega (arith, l, f);
     })
 
-pub admitted_table : (client responded : ℕ) (s : Session) (t : Table) → is_table t ≡ true → responded ≤ most_series → session_of client t ≡ Some s → is_table (admitted client responded (Some s) t) ≡ true
+pub admitted_table : (client responded : ℕ) (s : Session) (t : Table) → is_table t ≡ true → responded ≤ MOST_SERIES → session_of client t ≡ Some s → is_table (admitted client responded (Some s) t) ≡ true
 admitted_table client responded s t h m there =
     let p = table_parts t h in
     let l = length_without (nat_eq client) t.sessions s there in
@@ -217,7 +218,7 @@ set_table client s t h one =
       differ = differ_set client s t.sessions ∙ p.differ;
     })
 
-pub kept_session : (client series : ℕ) (reply : List ℕ) (s : Session) → is_session (client, s) ≡ true → s.responded < series → series ≤ most_series → length reply ≤ 512 → length s.replies + 1 < 2 ^ 32
+pub kept_session : (client series : ℕ) (reply : List ℕ) (s : Session) → is_session (client, s) ≡ true → s.responded < series → series ≤ MOST_SERIES → length reply ≤ MOST_COMMAND → length s.replies + 1 < 2 ^ 32
     → is_session (client, with_reply series reply s) ≡ true
 kept_session client series reply s h above most short few =
     let p = session_parts (client, s) h in
@@ -236,7 +237,7 @@ limit_one limit sessions h = (table_parts (record { limit = limit; sessions = se
 
 -- a session whose reply was kept, or that stayed as it was
 pub kept_either : {A E : Type 0} (r : Result A E) (client series : ℕ) (reply : List ℕ) (s new : Session) → OnOk r (new ≡ with_reply series reply s) → OnOk r (length s.replies + 1 < 2 ^ 32) → OnErr r (new ≡ s)
-    → is_session (client, s) ≡ true → s.responded < series → series ≤ most_series → length reply ≤ 512 → is_session (client, new) ≡ true
+    → is_session (client, s) ≡ true → s.responded < series → series ≤ MOST_SERIES → length reply ≤ MOST_COMMAND → is_session (client, new) ≡ true
 kept_either (Ok x) client series reply s new ok few err h above most short = subst (λ (y : Session). is_session (client, y) ≡ true) (sym ok) (kept_session client series reply s h above most short few)
 kept_either (Err e) client series reply s new ok few err h above most short = subst (λ (y : Session). is_session (client, y) ≡ true) (sym err) h
 

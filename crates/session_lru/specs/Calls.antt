@@ -5,6 +5,7 @@ use Rattle.std.specs.BTreeMap.{insert_entry, is_at}
 use Rattle.std.specs.Map.{lookup, remove_entry, set_value}
 use Rattle.host_ids.specs.declared.verdict.Verdict.{Verdict}
 use Rattle.host_ids.specs.declared.verdict.Verdict.TheVariants as verdicts
+use Rattle.host_ids.specs.declared.proposal.TheConstants.{MOST_COMMAND}
 use Rattle.object_model.specs.Sequence.{command_verdict}
 use Rattle.session_lru.specs.declared.session.Session.{Session}
 use Rattle.session_lru.specs.Table.{Table}
@@ -77,4 +78,4 @@ pub record MayKeep (client series : ℕ) (reply : List ℕ) (t : Table) : Type 0
   pub stands : session_of client t ≡ Some session
   pub above : session.responded < series
   pub new : kept_reply series session ≡ None
-  pub short : length reply ≤ 512
+  pub short : length reply ≤ MOST_COMMAND

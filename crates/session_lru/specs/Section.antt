@@ -2,14 +2,11 @@
 use Rattle.std.specs.Prelude.{◌≡◌, ℕ, zero, suc, ◌+◌, ◌-◌, ◌^◌, List, [], ◌∷◌, ◌++◌, Bool, true, ◌==◌, ◌&&◌, not, Option, Some, None, Result, Ok, Err, nat_le, nat_lt, length, take, drop, reverse, if◌then◌else◌}
 use Rattle.std.specs.List.{list_all, list_any, flat_map}
 use Rattle.std.specs.Int.{to_be_bytes, from_be_bytes, w16, w32, w64}
+use Rattle.host_ids.specs.declared.proposal.TheConstants.{MOST_SERIES, MOST_SESSIONS}
 use Rattle.session_lru.specs.declared.session.Session.{Session}
 use Rattle.session_lru.specs.Table.{Table}
 
 -- ---- the spelling
-
--- the greatest series, and the greatest responded value
-abbrev pub most_series : ℕ
-most_series = 2 ^ 64 - 3
 
 -- a series in eight bytes, the length of its reply in two, and the reply
 abbrev pub reply_bytes : ℕ × List ℕ → List ℕ
@@ -28,7 +25,7 @@ section t = to_be_bytes w32 t.limit ++ to_be_bytes w32 (length t.sessions) ++ fl
 -- each series is above the one before and at most the greatest, and each reply has fewer than 2^16 bytes
 abbrev pub are_replies : ℕ → List (ℕ × List ℕ) → Bool
 are_replies before [] = true
-are_replies before (e ∷ es) = nat_lt before e.0 && nat_le e.0 most_series && nat_lt (length e.1) (2 ^ 16) && are_replies e.0 es
+are_replies before (e ∷ es) = nat_lt before e.0 && nat_le e.0 MOST_SERIES && nat_lt (length e.1) (2 ^ 16) && are_replies e.0 es
 
 -- a reply of fewer than 2^16 bytes
 abbrev pub is_short : ℕ × List ℕ → Bool
@@ -36,7 +33,7 @@ is_short e = nat_lt (length e.1) (2 ^ 16)
 
 -- the client is 1 to 2^64-1, its responded value at most the greatest series, and its replies are above that
 abbrev pub is_session : ℕ × Session → Bool
-is_session e = nat_le 1 e.0 && nat_lt e.0 (2 ^ 64) && nat_le (e.1).responded most_series && are_replies (e.1).responded (e.1).replies && nat_lt (length (e.1).replies) (2 ^ 32)
+is_session e = nat_le 1 e.0 && nat_lt e.0 (2 ^ 64) && nat_le (e.1).responded MOST_SERIES && are_replies (e.1).responded (e.1).replies && nat_lt (length (e.1).replies) (2 ^ 32)
 
 abbrev pub has_client : ℕ → List (ℕ × Session) → Bool
 has_client client sessions = list_any (λ e. e.0 == client) sessions
@@ -46,17 +43,17 @@ abbrev pub all_differ : List (ℕ × Session) → Bool
 all_differ [] = true
 all_differ (e ∷ es) = not (has_client e.0 es) && all_differ es
 
--- a limit of 1 to 4,096, and at most so many sessions
+-- a limit of 1 to 4,096, and at most that number of sessions
 abbrev pub is_table : Table → Bool
-is_table t = nat_le 1 t.limit && nat_le t.limit 4096 && nat_le (length t.sessions) t.limit && list_all is_session t.sessions && all_differ t.sessions
+is_table t = nat_le 1 t.limit && nat_le t.limit MOST_SESSIONS && nat_le (length t.sessions) t.limit && list_all is_session t.sessions && all_differ t.sessions
 
 -- ---- reading: a value, or the place of the first field that is refused or cut short
 
--- so many bytes, and what stands after them
+-- the first n bytes, and what stands after them
 abbrev pub part_of : ℕ → List ℕ → Option (List ℕ × List ℕ)
 part_of n bytes = if nat_le n (length bytes) then Some (take n bytes, drop n bytes) else None
 
--- a field of so many bytes is there and passes, and what comes after it goes on
+-- a field of a number of bytes is there and passes, and what comes after it goes on
 abbrev pub field : {A : Type 0} → ℕ → Option (List ℕ × List ℕ) → (List ℕ → Bool) → (List ℕ → List ℕ → Result A ℕ) → Result A ℕ
 field at None test next = Err at
 field at (Some p) test next = if test p.0 then next p.0 p.1 else Err at
@@ -64,7 +61,7 @@ field at (Some p) test next = if test p.0 then next p.0 p.1 else Err at
 abbrev pub anything : List ℕ → Bool
 anything bytes = true
 
--- so many replies above a series, and what stands after them with its place
+-- a number of replies above a series, and what stands after them with its place
 pub record Rest (A : Type 0) : Type 0 where
   pub value : A
   pub at : ℕ
@@ -75,22 +72,22 @@ with_first x (Ok r) = Ok (record { value = x ∷ r.value; at = r.at; bytes = r.b
 with_first x (Err at) = Err at
 
 abbrev pub is_series : ℕ → List ℕ → Bool
-is_series before bytes = nat_lt before (from_be_bytes w64 bytes) && nat_le (from_be_bytes w64 bytes) most_series
+is_series before bytes = nat_lt before (from_be_bytes w64 bytes) && nat_le (from_be_bytes w64 bytes) MOST_SERIES
 
 unfoldable pub read_replies : ℕ → ℕ → ℕ → List ℕ → Result (Rest (List (ℕ × List ℕ))) ℕ
 read_replies zero before at bytes = Ok (record { value = []; at = at; bytes = bytes })
 read_replies (suc n) before at bytes =
     field at (part_of 8 bytes) (is_series before)
     (λ series more. field (at + 8) (part_of 2 more) anything
-    (λ size behind. field (at + 10) (part_of (from_be_bytes w16 size) behind) anything
+    (λ size beyond. field (at + 10) (part_of (from_be_bytes w16 size) beyond) anything
     (λ text rest. with_first (from_be_bytes w64 series, text) (read_replies n (from_be_bytes w64 series) (at + 10 + length text) rest))))
 
--- the next sessions, of which the first was touched longest ago: so many, after those that were read, the last one first
+-- the next n sessions, of which the first was touched longest ago, after those that were read, the last one first
 abbrev pub is_client : List (ℕ × Session) → List ℕ → Bool
 is_client before bytes = nat_le 1 (from_be_bytes w64 bytes) && not (has_client (from_be_bytes w64 bytes) before)
 
 abbrev pub is_responded : List ℕ → Bool
-is_responded bytes = nat_le (from_be_bytes w64 bytes) most_series
+is_responded bytes = nat_le (from_be_bytes w64 bytes) MOST_SERIES
 
 abbrev pub then_replies : {A : Type 0} → Result (Rest (List (ℕ × List ℕ))) ℕ → (List (ℕ × List ℕ) → ℕ → List ℕ → Result A ℕ) → Result A ℕ
 then_replies (Ok r) next = next r.value r.at r.bytes
@@ -102,12 +99,12 @@ read_sessions zero before at (b ∷ bytes) = Err at
 read_sessions (suc n) before at bytes =
     field at (part_of 8 bytes) (is_client before)
     (λ client more. field (at + 8) (part_of 8 more) is_responded
-    (λ responded behind. field (at + 16) (part_of 4 behind) anything
+    (λ responded beyond. field (at + 16) (part_of 4 beyond) anything
     (λ count rest. then_replies (read_replies (from_be_bytes w32 count) (from_be_bytes w64 responded) (at + 20) rest)
     (λ replies next left. read_sessions n ((from_be_bytes w64 client, record { responded = from_be_bytes w64 responded; replies = replies }) ∷ before) next left))))
 
 abbrev pub is_limit : List ℕ → Bool
-is_limit bytes = nat_le 1 (from_be_bytes w32 bytes) && nat_le (from_be_bytes w32 bytes) 4096
+is_limit bytes = nat_le 1 (from_be_bytes w32 bytes) && nat_le (from_be_bytes w32 bytes) MOST_SESSIONS
 
 abbrev pub with_limit : ℕ → Result (List (ℕ × Session)) ℕ → Result Table ℕ
 with_limit limit (Ok sessions) = Ok (record { limit = limit; sessions = sessions })

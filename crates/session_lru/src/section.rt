@@ -1,19 +1,17 @@
 ghost use Rattle.std.specs.Prelude.{◌≡◌, ◌+◌, ◌-◌, ◌^◌, ◌<◌, ◌≤◌, ◌++◌, ℕ, suc, Ok, Err, Some, true, IfOk, OnOk, IfSome, IsNone, IsErrOf, length, min, nat_lt, take, drop};
 ghost use Rattle.std.specs.List.{list_all, flat_map};
 ghost use Rattle.std.specs.Int.{from_be_bytes, to_be_bytes, w16, w32, w64};
-ghost use Rattle.session_lru.specs.Section.{most_series, session_bytes, section, is_session, are_replies, with_first, reply_bytes, is_short, read_replies, read_sessions, read_section};
+ghost use Rattle.session_lru.specs.Section.{session_bytes, section, is_session, are_replies, with_first, reply_bytes, is_short, read_replies, read_sessions, read_section};
 ghost use Rattle.session_lru.specs.declared.section.TableFault.TheVariants.{NoMemory as OutOfMemory};
+ghost use Rattle.host_ids.specs.declared.proposal.TheConstants.{MOST_SERIES};
 
 use crate::replies::Replies;
 use crate::session::Session;
 use crate::table::SessionTable;
 use byteorder::{BigEndian, ByteOrder};
-use host_ids::{NoMemory, Text};
+use host_ids::{MOST_SERIES, MOST_SESSIONS, NoMemory, Text};
 use std::alloc::{AllocError, Global};
 use thiserror::Error;
-
-/// The greatest series, and the greatest responded value.
-const MOST_SERIES: u64 = 18_446_744_073_709_551_613;
 
 /// Why bytes gave no table. Source: this project's own.
 #[derive(Clone, Copy, Debug, PartialEq, Eq, Error)]
@@ -77,7 +75,7 @@ fn put_64(out: &mut Vec<u8>, number: u64) -> Result<(), NoMemory>
     Ok(())
 }
 
-/// So many bytes from a place on, if there are as many.
+/// The next `count` bytes from a place on, if there are that many.
 fn part(bytes: &[u8], at: usize, count: usize) -> Option<&[u8]>
     requires { at ≤ length bytes.now }
     ensures there { IfSome result (λ p. at + count ≤ length bytes.now) }
@@ -133,7 +131,7 @@ fn read_reply(alloc: Global, bytes: &[u8], at: usize, before: u64) -> Result<Spe
     requires { at ≤ length bytes.now }
     ensures reads { (n : ℕ) → IfOk result (λ r. read_replies (suc n) before at (drop at bytes.now) ≡ with_first (r.series, r.reply) (read_replies n r.series r.next (drop r.next bytes.now))) }
     ensures within { IfOk result (λ r. r.next ≤ length bytes.now) }
-    ensures good { IfOk result (λ r. (before < r.series) × (r.series ≤ most_series) × (length r.reply < 2 ^ 16)) }
+    ensures good { IfOk result (λ r. (before < r.series) × (r.series ≤ MOST_SERIES) × (length r.reply < 2 ^ 16)) }
     ensures not_table { (n place : ℕ) → IsErrOf result (TableFault.NotTable place) → read_replies (suc n) before at (drop at bytes.now) ≡ Err place }
 {
     let series = match number_64(bytes, at) {
@@ -184,7 +182,7 @@ impl Replies {
         size
     }
 
-    /// So many replies from a place on, of series above `responded`, and the place after them.
+    /// The next `count` replies from a place on, of series above `responded`, and the place after them.
     fn read(
         alloc: Global,
         bytes: &[u8],
@@ -305,7 +303,7 @@ impl SessionTable {
             Some(limit) => limit,
             None => return Err(TableFault::NotTable { at: 0 }),
         };
-        if limit == 0 || 4096 < limit {
+        if limit == 0 || MOST_SESSIONS < limit {
             return Err(TableFault::NotTable { at: 0 });
         }
         let count = match number_32(bytes, 4) {

@@ -5,6 +5,7 @@ ghost use Rattle.object_model.specs.Sequence.{state, verdict};
 ghost use Rattle.session_lru.specs.Calls.{session_of, register_verdict, registered, close_verdict, closed, admit_verdict, admitted, kept_by, MayKeep};
 ghost use Rattle.session_lru.specs.Section.{has_client, is_session};
 ghost use Rattle.session_lru.specs.Law.{StandsFor, Awaits, HasActed, IsGone};
+ghost use Rattle.host_ids.specs.declared.proposal.TheConstants.{MOST_COMMAND, MOST_SERIES, MOST_SESSIONS};
 
 use crate::replies::Replies;
 use crate::session::Session;
@@ -55,7 +56,7 @@ impl SessionTable {
     /// A table without sessions, in which at most `limit`, 1 to 4,096, may stand. The only error is
     /// `NoMemory`.
     pub fn new(alloc: Global, limit: u32) -> Result<SessionTable, NoMemory>
-        requires { (1 ≤ limit) × (limit ≤ 4096) }
+        requires { (1 ≤ limit) × (limit ≤ MOST_SESSIONS) }
         ensures table { IfOk result (λ t. t ≡ record { limit = limit; sessions = [] }) }
         ensures stands { IfOk result (λ t. StandsFor [] t) }
     {
@@ -111,15 +112,15 @@ impl SessionTable {
     /// order too.
     pub fn admit(&mut self, client: u64, series: u64, responded: u64) -> Result<Verdict, NoMemory>
         requires client_in { 1 ≤ client }
-        requires series_in { (1 ≤ series) × (series ≤ 2 ^ 64 - 3) }
-        requires responded_in { responded ≤ 2 ^ 64 - 3 }
+        requires series_in { (1 ≤ series) × (series ≤ MOST_SERIES) }
+        requires responded_in { responded ≤ MOST_SERIES }
         ensures verdict { IfOk result (λ v. v ≡ admit_verdict (session_of client self.old) series responded) }
         ensures table { OnOk result (self.new ≡ admitted client responded (session_of client self.old) self.old) }
         ensures err { OnErr result (self.new ≡ self.old) }
         ensures judges { (history : List Proposal) (command : List ℕ) → StandsFor history self.old → IfOk result (λ v. v ≡ verdict self.old.limit history (Proposal.Session client series responded command)) }
         ensures stands { (history : List Proposal) (command : List ℕ) → StandsFor history self.old → IfOk result (λ v. v ≢ Verdict.Acts → StandsFor (Proposal.Session client series responded command ∷ history) self.new) }
         ensures awaits { (history : List Proposal) (command : List ℕ) → StandsFor history self.old → IfOk result (λ v. v ≡ Verdict.Acts → Awaits history client series responded command self.new) }
-        ensures may_keep { (reply : List ℕ) → length reply ≤ 512 → IfOk result (λ v. v ≡ Verdict.Acts → MayKeep client series reply self.new) }
+        ensures may_keep { (reply : List ℕ) → length reply ≤ MOST_COMMAND → IfOk result (λ v. v ≡ Verdict.Acts → MayKeep client series reply self.new) }
         ensures once { HasActed client series self.old → IfOk result (λ v. v ≢ Verdict.Acts) }
         ensures gone { IsGone client self.old → IfOk result (λ v. v ≡ Verdict.NotStanding) }
     {
@@ -136,11 +137,12 @@ impl SessionTable {
     }
 
     /// Keeps the reply, of at most 512 bytes, of a command that acted: its client stands, its series
-    /// is above the responded value and has no kept reply. The session isn't touched. After want of
-    /// memory, the only error, all is as before; it also comes where the session keeps 2^32-1 replies.
+    /// is above the responded value and has no kept reply. The session isn't touched. After
+    /// `NoMemory`, the only error, all is as before; it also comes where the session keeps 2^32-1
+    /// replies.
     pub fn keep(&mut self, client: u64, series: u64, reply: Text) -> Result<(), NoMemory>
         requires client_in { 1 ≤ client }
-        requires series_in { (1 ≤ series) × (series ≤ 2 ^ 64 - 3) }
+        requires series_in { (1 ≤ series) × (series ≤ MOST_SERIES) }
         requires may { MayKeep client series reply self.old }
         ensures table { OnOk result (self.new ≡ kept_by client series reply (session_of client self.old) self.old) }
         ensures err { OnErr result (self.new ≡ self.old) }

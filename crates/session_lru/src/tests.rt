@@ -1,7 +1,8 @@
 ghost use Rattle.std.specs.Prelude.{◌≡◌, ◌≤◌, ◌<◌, ◌-◌, ◌^◌, length};
+ghost use Rattle.host_ids.specs.declared.proposal.TheConstants.{MOST_SERIES, MOST_SESSIONS};
 
 use crate::{Replies, SessionTable, TableFault, others_leave, sections_are_read};
-use host_ids::{Proposal, Text, Verdict};
+use host_ids::{MOST_COMMAND, Proposal, Text, Verdict};
 use object_model::{reply_at, standing_after, verdict_at};
 use rand_core::utils::NextWord;
 use rand_pcg::Pcg32;
@@ -12,7 +13,7 @@ fn text_of(alloc: Global, text: &str) -> Result<Text, Fail> {
     Ok(Text::new(alloc, text.as_bytes())?)
 }
 
-/// A number from `least` on, one of so many.
+/// One of the `count` numbers from `least` on.
 fn draw(random: &mut Pcg32, least: u64, count: u64) -> u64
     requires { (1 ≤ count) × (count ≤ 100) × (least ≤ 100) }
     ensures { (least ≤ result) × (result < 200) }
@@ -28,12 +29,12 @@ fn call(
     responded: u64,
     reply: Option<Text>,
 ) -> Result<Verdict, Fail>
-    requires { (1 ≤ client) × (1 ≤ series) × (series ≤ 2 ^ 64 - 3) × (responded ≤ 2 ^ 64 - 3) }
+    requires { (1 ≤ client) × (1 ≤ series) × (series ≤ MOST_SERIES) × (responded ≤ MOST_SERIES) }
 {
     let verdict = table.admit(client, series, responded)?;
     if let Verdict::Acts = verdict {
         let reply = reply.ok_or("a reply")?;
-        if reply.bytes().len() <= 512 {
+        if reply.bytes().len() <= MOST_COMMAND {
             table.keep(client, series, reply)?;
         }
     }
@@ -77,7 +78,7 @@ fn replies_are_kept_and_dropped(rt: HostRuntime) -> Result<(), Fail> {
     Ok(())
 }
 
-/// A proposal of one of so many clients, early in a list a register.
+/// A proposal of one of `clients` clients; early in a list, a register.
 fn proposal_of(
     alloc: Global,
     random: &mut Pcg32,
@@ -143,7 +144,7 @@ fn image_of(table: &SessionTable) -> Result<Vec<u8>, Fail> {
     Ok(table.image()?)
 }
 
-/// The number in so many bytes at a place, the highest first.
+/// The number in `size` bytes at a place, the highest first.
 fn number(bytes: &[u8], at: usize, size: usize) -> Option<u64> {
     let part = bytes.get(at..at.saturating_add(size))?;
     let mut number: u64 = 0;
@@ -153,8 +154,8 @@ fn number(bytes: &[u8], at: usize, size: usize) -> Option<u64> {
     Some(number)
 }
 
-/// The place after so many replies above a series, or the place that is refused.
-fn behind_replies(bytes: &[u8], start: usize, count: u64, above: u64) -> Result<usize, usize> {
+/// The place after `count` replies above a series, or the place that is refused.
+fn beyond_replies(bytes: &[u8], start: usize, count: u64, above: u64) -> Result<usize, usize> {
     let mut at = start;
     let mut before = above;
     for _ in 0..count {
@@ -198,7 +199,7 @@ fn refused_at(alloc: Global, bytes: &[u8]) -> Result<Result<(), usize>, Fail> {
             Some(replies) => replies,
             None => return Ok(Err(at.saturating_add(16))),
         };
-        match behind_replies(bytes, at.saturating_add(20), replies, responded) {
+        match beyond_replies(bytes, at.saturating_add(20), replies, responded) {
             Ok(next) => at = next,
             Err(place) => return Ok(Err(place)),
         }
@@ -217,7 +218,7 @@ fn clients_of(alloc: Global, bytes: &[u8]) -> Result<Vec<u64>, Fail> {
     for _ in 0..number(bytes, 4, 4).unwrap_or(0) {
         clients.push(number(bytes, at, 8).unwrap_or(0))?;
         let replies = number(bytes, at.saturating_add(16), 4).unwrap_or(0);
-        at = behind_replies(bytes, at.saturating_add(20), replies, 0)?;
+        at = beyond_replies(bytes, at.saturating_add(20), replies, 0)?;
     }
     Ok(clients)
 }
@@ -322,7 +323,7 @@ fn run_beside(
     most: u64,
     calls: usize,
 ) -> Result<(u64, u64), Fail>
-    requires { (1 ≤ limit) × (limit ≤ 4096) × (1 ≤ clients) × (clients ≤ 100) × (1 ≤ most) × (most ≤ 100) }
+    requires { (1 ≤ limit) × (limit ≤ MOST_SESSIONS) × (1 ≤ clients) × (clients ≤ 100) × (1 ≤ most) × (most ≤ 100) }
 {
     let mut table = SessionTable::new(alloc, limit)?;
     let mut list = Vec::new(alloc);

@@ -8,7 +8,7 @@ use wire_codec::{Body, is_piece, is_request};
 
 /// A piece of a snapshot, by its numbers.
 #[derive(Clone, Copy)]
-struct Row {
+struct PieceRow {
     term: u64,
     index: u64,
     last_term: u64,
@@ -86,7 +86,7 @@ fn propose(lane: &mut Lane, serial: u64) -> bool {
 }
 
 /// A host sends another one a piece of three bytes.
-fn send(lane: &mut Lane, alloc: Global, host: u8, to: u8, row: &Row) -> Result<bool, Fail> {
+fn send(lane: &mut Lane, alloc: Global, host: u8, to: u8, row: &PieceRow) -> Result<bool, Fail> {
     if row.index > 9 || row.number > 9 {
         return Ok(false);
     }
@@ -144,9 +144,9 @@ fn has_received(lane: &Lane, host: u8, index: u64, term: u64, bytes: &[u8]) -> b
     }
 }
 
-fn piece(numbers: (u64, u64, u64, u32, u32)) -> Row {
+fn piece(numbers: (u64, u64, u64, u32, u32)) -> PieceRow {
     let (term, index, last_term, number, count) = numbers;
-    Row {
+    PieceRow {
         term,
         index,
         last_term,

@@ -4,9 +4,11 @@ use Rattle.host_ids.specs.declared.entry.Entry.{Entry}
 use Rattle.host_ids.specs.declared.entry.Key.{Key}
 use Rattle.host_ids.specs.declared.proposal.Proposal.{Proposal}
 use Rattle.host_ids.specs.declared.proposal.Proposal.TheVariants as proposals
+use Rattle.host_ids.specs.declared.proposal.TheConstants.{MOST_COMMAND, MOST_SERIES}
+use Rattle.wire_codec.specs.declared.grammar.TheConstants.{MOST_ENTRIES, MOST_PIECE}
 use Rattle.wire_codec.specs.declared.envelope.Envelope.{Envelope}
 use Rattle.wire_codec.specs.declared.envelope.Body.{Body}
-use Rattle.wire_codec.specs.declared.envelope.Body.TheVariants as kinds
+use Rattle.wire_codec.specs.declared.envelope.Body.TheVariants as bodies
 
 -- hosts are 1 to 9, groups 1 to 64
 abbrev pub is_host : ℕ → Bool
@@ -19,20 +21,12 @@ is_group g = nat_le 1 g && nat_le g 64
 abbrev pub is_key : Key → Bool
 is_key key = is_host key.host && nat_le 1 key.start && nat_le 1 key.serial
 
--- a command has 1 to 512 bytes
-abbrev pub most_command : ℕ
-most_command = 512
-
 abbrev pub is_command : List ℕ → Bool
-is_command text = nat_le 1 (length text) && nat_le (length text) most_command
-
--- the greatest series, and the greatest responded value
-abbrev pub most_series : ℕ
-most_series = 2 ^ 64 - 3
+is_command text = nat_le 1 (length text) && nat_le (length text) MOST_COMMAND
 
 -- a client and a series of at least 1, and neither series nor responded value above the greatest
 abbrev pub are_fit_numbers : ℕ → ℕ → ℕ → Bool
-are_fit_numbers client series responded = nat_le 1 client && nat_le 1 series && nat_le series most_series && nat_le responded most_series
+are_fit_numbers client series responded = nat_le 1 client && nat_le 1 series && nat_le series MOST_SERIES && nat_le responded MOST_SERIES
 
 abbrev pub is_proposal : Proposal → Bool
 is_proposal proposals.Blank = true
@@ -66,19 +60,13 @@ are_entries prev [] = true
 are_entries prev (e ∷ es) = (e.index == prev + 1) && is_entry e && are_entries (prev + 1) es
 
 -- an append has at most 64 entries, and a piece of a snapshot at most 65,536 bytes
-abbrev pub most_entries : ℕ
-most_entries = 64
-
-abbrev pub most_piece : ℕ
-most_piece = 65536
-
 -- at index 0 the term is 0
 abbrev pub is_before : ℕ → ℕ → Bool
 is_before index term = not (index == 0) || (term == 0)
 
 -- an append: at the previous index 0 the previous term is 0, and there are at most 64 entries, which are well formed and have the indices after the previous one, below 2^64
 abbrev pub is_append : ℕ → ℕ → List Entry → Bool
-is_append prev prev_term es = is_before prev prev_term && nat_le (length es) most_entries && nat_lt (prev + length es) (2 ^ 64) && are_entries prev es
+is_append prev prev_term es = is_before prev prev_term && nat_le (length es) MOST_ENTRIES && nat_lt (prev + length es) (2 ^ 64) && are_entries prev es
 
 -- the last term of a snapshot is 0 exactly where its index is 0
 abbrev pub is_end : ℕ → ℕ → Bool
@@ -88,21 +76,21 @@ is_end index term = (is_before index term) && (not (term == 0) || (index == 0))
 abbrev pub is_piece : ℕ → ℕ → ℕ → ℕ → ℕ → List ℕ → Bool
 is_piece index last_term number count size bytes =
     is_end index last_term && nat_le 1 number && nat_le number count && nat_lt (count + 1) (2 ^ 32)
-    && nat_le 1 size && nat_le size most_piece && nat_le (length bytes) most_piece
+    && nat_le 1 size && nat_le size MOST_PIECE && nat_le (length bytes) MOST_PIECE
 
 -- the kinds that belong to a term have one of at least 1, and the others the term 0
 abbrev pub is_body : ℕ → Body → Bool
-is_body term (kinds.Vote l lt) = nat_le 1 term
-is_body term (kinds.VoteReply granted) = nat_le 1 term
-is_body term (kinds.Append prev pt c es) = nat_le 1 term && is_append prev pt es
-is_body term (kinds.AppendReply ok i) = nat_le 1 term
-is_body term (kinds.Beat c round) = nat_le 1 term
-is_body term (kinds.BeatReply round) = nat_le 1 term
-is_body term (kinds.SnapChunk index last_term number count size bytes) = nat_le 1 term && is_piece index last_term number count size bytes
-is_body term (kinds.SnapReply i want whole) = nat_le 1 term
-is_body term (kinds.Propose key p) = (term == 0) && is_request key p
-is_body term (kinds.ReadAsk key) = (term == 0) && is_key key
-is_body term (kinds.ReadAnswer key i) = (term == 0) && is_key key
+is_body term (bodies.Vote l lt) = nat_le 1 term
+is_body term (bodies.VoteReply granted) = nat_le 1 term
+is_body term (bodies.Append prev pt c es) = nat_le 1 term && is_append prev pt es
+is_body term (bodies.AppendReply ok i) = nat_le 1 term
+is_body term (bodies.Beat c round) = nat_le 1 term
+is_body term (bodies.BeatReply round) = nat_le 1 term
+is_body term (bodies.SnapChunk index last_term number count size bytes) = nat_le 1 term && is_piece index last_term number count size bytes
+is_body term (bodies.SnapReply i want whole) = nat_le 1 term
+is_body term (bodies.Propose key p) = (term == 0) && is_request key p
+is_body term (bodies.ReadAsk key) = (term == 0) && is_key key
+is_body term (bodies.ReadAnswer key i) = (term == 0) && is_key key
 
 abbrev pub is_envelope : Envelope → Bool
 is_envelope e = is_host e.from && is_host e.to && not (e.from == e.to) && is_group e.group && is_body e.term e.body

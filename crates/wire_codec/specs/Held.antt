@@ -4,13 +4,13 @@ use Rattle.host_ids.specs.declared.entry.Entry.{Entry}
 use Rattle.host_ids.specs.Held.{part}
 use Rattle.wire_codec.specs.declared.append.AppendHead.{AppendHead}
 use Rattle.wire_codec.specs.declared.envelope.Envelope.{Envelope}
-use Rattle.wire_codec.specs.declared.envelope.Body.TheVariants as kinds
+use Rattle.wire_codec.specs.declared.envelope.Body.TheVariants as bodies
 use Rattle.wire_codec.specs.declared.slot.Slot.{Slot}
 use Rattle.wire_codec.specs.declared.slot.Slot.TheVariants.{Whole, Part}
 
 -- the Append of these entries
 abbrev pub append_of : AppendHead → List Entry → Envelope
-append_of head entries = record { from = head.from; to = head.to; group = head.group; term = head.term; body = kinds.Append head.prev head.prev_term head.commit entries }
+append_of head entries = record { from = head.from; to = head.to; group = head.group; term = head.term; body = bodies.Append head.prev head.prev_term head.commit entries }
 
 -- the envelope of a slot: its own one, or an Append of a part of these entries
 abbrev pub shown : List Entry → Slot → Envelope

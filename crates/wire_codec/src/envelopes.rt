@@ -69,7 +69,7 @@ impl Envelopes {
 
     /// Adds an Append of the first `count` of these entries, which come after the head's `prev`. The rest
     /// of `tail`, of which at most some more are looked at, may be copied ahead for Appends to come. After
-    /// `NoMemory`, the only error, the envelopes are only to be dropped.
+    /// `NoMemory`, the only error, the envelopes can only be dropped.
     ///
     /// It takes as long as comparing the entries with those of at most nine runs, and copying those that
     /// the run lacks; where a new run begins, as copying at most 128 or `count` entries, and moving the

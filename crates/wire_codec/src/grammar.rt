@@ -2,12 +2,8 @@ ghost use Rattle.std.specs.Prelude.{◌≡◌, ◌<◌, ◌+◌, ◌^◌, length
 ghost use Rattle.wire_codec.specs.Grammar.{is_host, is_group, is_key, is_command, are_fit_numbers, is_proposal, is_blank, is_request, is_no_key, is_entry, are_entries, is_append, is_piece, is_body, is_envelope};
 
 use crate::envelope::{Body, Envelope};
-use host_ids::{Entry, Key, Proposal, Text};
+use host_ids::{Entry, Key, MOST_COMMAND, MOST_SERIES, Proposal, Text};
 
-/// The most bytes of a command.
-pub const MOST_COMMAND: usize = 512;
-/// The greatest series of a session's command, and the greatest responded value.
-pub const MOST_SERIES: u64 = u64::MAX - 2;
 /// The most entries of an append.
 pub const MOST_ENTRIES: usize = 64;
 /// The most bytes of a piece of a snapshot, and the greatest size by which one is cut.

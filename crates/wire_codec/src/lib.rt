@@ -14,8 +14,8 @@ pub use append::AppendHead;
 pub use envelope::{Body, Envelope};
 pub use envelopes::Envelopes;
 pub use grammar::{
-    MOST_COMMAND, MOST_ENTRIES, MOST_PIECE, MOST_SERIES, are_entries, are_fit_numbers, is_command,
-    is_entry, is_envelope, is_group, is_host, is_key, is_piece, is_proposal, is_request,
+    MOST_ENTRIES, MOST_PIECE, are_entries, are_fit_numbers, is_command, is_entry, is_envelope,
+    is_group, is_host, is_key, is_piece, is_proposal, is_request,
 };
 
 #[cfg(test)]

@@ -10,7 +10,7 @@ use Rattle.raft_model.specs.Group.{Group, fresh_group, act, run}
 use Rattle.raft_safety.specs.Events.{AreAllowed}
 use Rattle.raft_safety.specs.ReadFront.{AreFronted, ReadFront, FirstAsk, CoversNow}
 use Rattle.raft_safety.specs.Runs.{HasRun}
-use Rattle.group_world.specs.World.{Kept}
+use Rattle.group_world.specs.Members.{Kept}
 use Rattle.world_laws.specs.Laws.{FrontsFromHere, AsksFromHere}
 
 -- two lists of events, one after the other, lead where their join leads

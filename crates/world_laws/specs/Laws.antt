@@ -6,7 +6,7 @@ use Rattle.raft_model.specs.Group.{Group, replica_at, is_member, fresh_group, ru
 use Rattle.raft_safety.specs.Events.{AreAllowed}
 use Rattle.raft_safety.specs.OneList.{Leads, GoesOn, HoldsList}
 use Rattle.raft_safety.specs.ReadFront.{AreFronted, CoversNow}
-use Rattle.group_world.specs.World.{Kept}
+use Rattle.group_world.specs.Members.{Kept}
 
 -- hosts that lead the same term, one before and one now, are one
 abbrev pub HaveOneLeader : Group → Group → Type 0

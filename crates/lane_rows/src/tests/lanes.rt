@@ -1,7 +1,6 @@
 ghost use Rattle.std.specs.Prelude.{◌≡◌, ◌≤◌, ◌<◌, length};
 ghost use Rattle.std.specs.List.{All};
 
-use super::given::check;
 use group_world::Lane;
 use host_ids::{Key, Proposal, Text};
 use raft_core::{Chunk, Input, LaneEvent, LaneFault, Note, Replica, Role};
@@ -20,7 +19,7 @@ const BLANK: Key = Key {
 
 /// An event, with the numbers that it takes.
 #[derive(Clone, Copy)]
-enum Step {
+enum LaneStep {
     Timeout(u8),
     Beat(u8),
     Deliver(u64),
@@ -38,15 +37,15 @@ fn key(host: u8, serial: u64) -> Key {
     }
 }
 
-fn at_lane(lane: &mut Lane, step: Step) -> Result<Vec<Note>, LaneFault> {
+fn at_lane(lane: &mut Lane, step: LaneStep) -> Result<Vec<Note>, LaneFault> {
     match step {
-        Step::Timeout(host) => lane.act(LaneEvent::Timeout { host }),
-        Step::Beat(host) => lane.act(LaneEvent::Beat { host }),
-        Step::Deliver(number) => lane.act(LaneEvent::Deliver { number }),
-        Step::Ready(host) => lane.act(LaneEvent::Ready { host }),
-        Step::Saved(host, id) => lane.act(LaneEvent::Saved { host, id }),
-        Step::Propose(host, serial) => propose(lane, host, key(host, serial)),
-        Step::Ask(host, serial) => ask(lane, host, key(host, serial)),
+        LaneStep::Timeout(host) => lane.act(LaneEvent::Timeout { host }),
+        LaneStep::Beat(host) => lane.act(LaneEvent::Beat { host }),
+        LaneStep::Deliver(number) => lane.act(LaneEvent::Deliver { number }),
+        LaneStep::Ready(host) => lane.act(LaneEvent::Ready { host }),
+        LaneStep::Saved(host, id) => lane.act(LaneEvent::Saved { host, id }),
+        LaneStep::Propose(host, serial) => propose(lane, host, key(host, serial)),
+        LaneStep::Ask(host, serial) => ask(lane, host, key(host, serial)),
     }
 }
 
@@ -72,7 +71,7 @@ fn ask(lane: &mut Lane, host: u8, key: Key) -> Result<Vec<Note>, LaneFault> {
 }
 
 /// A lane after these steps, with all that they noted but what each batch notes.
-fn after(rt: &impl Abort, alloc: Global, steps: &[Step]) -> Result<(Lane, Vec<Note>), Fail> {
+fn after(rt: &impl Abort, alloc: Global, steps: &[LaneStep]) -> Result<(Lane, Vec<Note>), Fail> {
     let mut lane = Lane::new(alloc, 1, &[1, 2, 3])?;
     let mut noted = Vec::new(alloc);
     for step in steps {
@@ -91,33 +90,33 @@ fn after(rt: &impl Abort, alloc: Global, steps: &[Step]) -> Result<(Lane, Vec<No
 }
 
 /// An election at host 1, and the save of its blank by all.
-const ELECTED: [Step; 23] = [
-    Step::Timeout(1),
-    Step::Ready(1),
-    Step::Saved(1, 1),
-    Step::Deliver(1),
-    Step::Deliver(2),
-    Step::Ready(2),
-    Step::Saved(2, 1),
-    Step::Ready(3),
-    Step::Saved(3, 1),
-    Step::Deliver(3),
-    Step::Deliver(4),
-    Step::Ready(1),
-    Step::Saved(1, 2),
-    Step::Deliver(5),
-    Step::Deliver(6),
-    Step::Ready(2),
-    Step::Saved(2, 2),
-    Step::Ready(3),
-    Step::Saved(3, 2),
-    Step::Deliver(7),
-    Step::Deliver(8),
-    Step::Ready(1),
-    Step::Saved(1, 3),
+const ELECTED: [LaneStep; 23] = [
+    LaneStep::Timeout(1),
+    LaneStep::Ready(1),
+    LaneStep::Saved(1, 1),
+    LaneStep::Deliver(1),
+    LaneStep::Deliver(2),
+    LaneStep::Ready(2),
+    LaneStep::Saved(2, 1),
+    LaneStep::Ready(3),
+    LaneStep::Saved(3, 1),
+    LaneStep::Deliver(3),
+    LaneStep::Deliver(4),
+    LaneStep::Ready(1),
+    LaneStep::Saved(1, 2),
+    LaneStep::Deliver(5),
+    LaneStep::Deliver(6),
+    LaneStep::Ready(2),
+    LaneStep::Saved(2, 2),
+    LaneStep::Ready(3),
+    LaneStep::Saved(3, 2),
+    LaneStep::Deliver(7),
+    LaneStep::Deliver(8),
+    LaneStep::Ready(1),
+    LaneStep::Saved(1, 3),
 ];
 
-fn behind(alloc: Global, more: &[Step]) -> Result<Vec<Step>, Fail> {
+fn beyond(alloc: Global, more: &[LaneStep]) -> Result<Vec<LaneStep>, Fail> {
     let mut steps = ELECTED.as_slice().to_vec(alloc)?;
     for step in more {
         steps.push(*step)?;
@@ -137,39 +136,39 @@ fn decided(rt: &impl Abort, lane: &Lane, wanted: &[Key]) -> Result<(), Fail> {
 #[test]
 fn a_follower_hands_on_a_proposal_and_a_read(rt: HostRuntime) -> Result<(), Fail> {
     let alloc = rt.alloc();
-    let steps = behind(
+    let steps = beyond(
         alloc,
         &[
-            Step::Propose(2, 1),
-            Step::Deliver(9),
-            Step::Ready(1),
-            Step::Saved(1, 4),
-            Step::Deliver(10),
-            Step::Deliver(11),
-            Step::Ready(2),
-            Step::Saved(2, 3),
-            Step::Ready(3),
-            Step::Saved(3, 3),
-            Step::Deliver(12),
-            Step::Deliver(13),
-            Step::Ready(1),
-            Step::Saved(1, 5),
-            Step::Beat(1),
-            Step::Deliver(14),
-            Step::Deliver(15),
-            Step::Ready(2),
-            Step::Saved(2, 4),
-            Step::Ready(3),
-            Step::Saved(3, 4),
-            Step::Deliver(16),
-            Step::Deliver(17),
-            Step::Ask(3, 1),
-            Step::Deliver(18),
-            Step::Deliver(19),
-            Step::Deliver(20),
-            Step::Deliver(21),
-            Step::Deliver(22),
-            Step::Deliver(23),
+            LaneStep::Propose(2, 1),
+            LaneStep::Deliver(9),
+            LaneStep::Ready(1),
+            LaneStep::Saved(1, 4),
+            LaneStep::Deliver(10),
+            LaneStep::Deliver(11),
+            LaneStep::Ready(2),
+            LaneStep::Saved(2, 3),
+            LaneStep::Ready(3),
+            LaneStep::Saved(3, 3),
+            LaneStep::Deliver(12),
+            LaneStep::Deliver(13),
+            LaneStep::Ready(1),
+            LaneStep::Saved(1, 5),
+            LaneStep::Beat(1),
+            LaneStep::Deliver(14),
+            LaneStep::Deliver(15),
+            LaneStep::Ready(2),
+            LaneStep::Saved(2, 4),
+            LaneStep::Ready(3),
+            LaneStep::Saved(3, 4),
+            LaneStep::Deliver(16),
+            LaneStep::Deliver(17),
+            LaneStep::Ask(3, 1),
+            LaneStep::Deliver(18),
+            LaneStep::Deliver(19),
+            LaneStep::Deliver(20),
+            LaneStep::Deliver(21),
+            LaneStep::Deliver(22),
+            LaneStep::Deliver(23),
         ],
     )?;
     let (lane, noted) = after(&rt, alloc, &steps)?;
@@ -196,9 +195,13 @@ fn a_follower_hands_on_a_proposal_and_a_read(rt: HostRuntime) -> Result<(), Fail
 #[test]
 fn what_one_of_three_has_saved_is_not_decided(rt: HostRuntime) -> Result<(), Fail> {
     let alloc = rt.alloc();
-    let steps = behind(
+    let steps = beyond(
         alloc,
-        &[Step::Propose(1, 1), Step::Ready(1), Step::Saved(1, 4)],
+        &[
+            LaneStep::Propose(1, 1),
+            LaneStep::Ready(1),
+            LaneStep::Saved(1, 4),
+        ],
     )?;
     let (lane, noted) = after(&rt, alloc, &steps)?;
     assert_eq!(rt;
@@ -213,53 +216,53 @@ fn what_one_of_three_has_saved_is_not_decided(rt: HostRuntime) -> Result<(), Fai
 #[test]
 fn an_envelope_that_comes_twice_is_decided_twice(rt: HostRuntime) -> Result<(), Fail> {
     let alloc = rt.alloc();
-    let steps = behind(
+    let steps = beyond(
         alloc,
         &[
-            Step::Propose(2, 1),
-            Step::Deliver(9),
-            Step::Ready(1),
-            Step::Saved(1, 4),
-            Step::Deliver(9),
-            Step::Deliver(10),
-            Step::Deliver(11),
-            Step::Ready(1),
-            Step::Saved(1, 5),
-            Step::Ready(2),
-            Step::Saved(2, 3),
-            Step::Ready(3),
-            Step::Saved(3, 3),
-            Step::Deliver(12),
-            Step::Deliver(13),
-            Step::Deliver(14),
-            Step::Deliver(15),
-            Step::Ready(1),
-            Step::Saved(1, 6),
-            Step::Ready(2),
-            Step::Saved(2, 4),
-            Step::Ready(3),
-            Step::Saved(3, 4),
-            Step::Deliver(16),
-            Step::Deliver(17),
-            Step::Deliver(18),
-            Step::Deliver(19),
-            Step::Ready(1),
-            Step::Saved(1, 7),
-            Step::Ready(2),
-            Step::Saved(2, 5),
-            Step::Ready(3),
-            Step::Saved(3, 5),
-            Step::Deliver(20),
-            Step::Deliver(21),
-            Step::Beat(1),
-            Step::Deliver(22),
-            Step::Deliver(23),
-            Step::Ready(2),
-            Step::Saved(2, 6),
-            Step::Ready(3),
-            Step::Saved(3, 6),
-            Step::Deliver(24),
-            Step::Deliver(25),
+            LaneStep::Propose(2, 1),
+            LaneStep::Deliver(9),
+            LaneStep::Ready(1),
+            LaneStep::Saved(1, 4),
+            LaneStep::Deliver(9),
+            LaneStep::Deliver(10),
+            LaneStep::Deliver(11),
+            LaneStep::Ready(1),
+            LaneStep::Saved(1, 5),
+            LaneStep::Ready(2),
+            LaneStep::Saved(2, 3),
+            LaneStep::Ready(3),
+            LaneStep::Saved(3, 3),
+            LaneStep::Deliver(12),
+            LaneStep::Deliver(13),
+            LaneStep::Deliver(14),
+            LaneStep::Deliver(15),
+            LaneStep::Ready(1),
+            LaneStep::Saved(1, 6),
+            LaneStep::Ready(2),
+            LaneStep::Saved(2, 4),
+            LaneStep::Ready(3),
+            LaneStep::Saved(3, 4),
+            LaneStep::Deliver(16),
+            LaneStep::Deliver(17),
+            LaneStep::Deliver(18),
+            LaneStep::Deliver(19),
+            LaneStep::Ready(1),
+            LaneStep::Saved(1, 7),
+            LaneStep::Ready(2),
+            LaneStep::Saved(2, 5),
+            LaneStep::Ready(3),
+            LaneStep::Saved(3, 5),
+            LaneStep::Deliver(20),
+            LaneStep::Deliver(21),
+            LaneStep::Beat(1),
+            LaneStep::Deliver(22),
+            LaneStep::Deliver(23),
+            LaneStep::Ready(2),
+            LaneStep::Saved(2, 6),
+            LaneStep::Ready(3),
+            LaneStep::Saved(3, 6),
+            LaneStep::Deliver(24),
+            LaneStep::Deliver(25),
         ],
     )?;
     let (lane, noted) = after(&rt, alloc, &steps)?;
@@ -272,7 +275,7 @@ fn an_envelope_that_comes_twice_is_decided_twice(rt: HostRuntime) -> Result<(), 
     Ok(())
 }
 
-fn refused(rt: &impl Abort, lane: &mut Lane, step: Step, wanted: LaneFault) {
+fn refused(rt: &impl Abort, lane: &mut Lane, step: LaneStep, wanted: LaneFault) {
     match at_lane(lane, step) {
         Ok(_) => assert!(rt; false),
         Err(fault) => assert!(rt; fault == wanted),
@@ -281,24 +284,24 @@ fn refused(rt: &impl Abort, lane: &mut Lane, step: Step, wanted: LaneFault) {
 
 #[test]
 fn events_are_refused_by_name(rt: HostRuntime) -> Result<(), Fail> {
-    let (mut lane, _) = after(&rt, rt.alloc(), &[Step::Timeout(1), Step::Ready(1)])?;
-    refused(&rt, &mut lane, Step::Timeout(4), LaneFault::NotMember);
-    refused(&rt, &mut lane, Step::Deliver(1), LaneFault::NoEnvelope);
-    refused(&rt, &mut lane, Step::Deliver(0), LaneFault::NoEnvelope);
+    let (mut lane, _) = after(&rt, rt.alloc(), &[LaneStep::Timeout(1), LaneStep::Ready(1)])?;
+    refused(&rt, &mut lane, LaneStep::Timeout(4), LaneFault::NotMember);
+    refused(&rt, &mut lane, LaneStep::Deliver(1), LaneFault::NoEnvelope);
+    refused(&rt, &mut lane, LaneStep::Deliver(0), LaneFault::NoEnvelope);
     refused(
         &rt,
         &mut lane,
-        Step::Saved(1, 2),
+        LaneStep::Saved(1, 2),
         LaneFault::NotPending { pending: 1 },
     );
     refused(
         &rt,
         &mut lane,
-        Step::Saved(2, 1),
+        LaneStep::Saved(2, 1),
         LaneFault::NotPending { pending: 0 },
     );
     assert!(rt; lane.act(LaneEvent::Down { host: 1 }).is_ok());
-    refused(&rt, &mut lane, Step::Saved(1, 2), LaneFault::IsDown);
+    refused(&rt, &mut lane, LaneStep::Saved(1, 2), LaneFault::IsDown);
     Ok(())
 }
 
@@ -393,10 +396,13 @@ fn delivered(
 ) -> Result<Vec<Note>, Fail> {
     assert!(rt; 1 <= number && number <= plain.wire.len() as u64);
     let envelope = plain.wire[(number - 1) as usize].copy()?;
-    check(rt, &envelope);
+    assert!(rt; 1 <= envelope.to);
     let place = envelope.to as usize - 1;
     assert!(rt; place < plain.replicas.len());
-    Ok(plain.replicas[place].step(Input::Envelope { envelope })?)
+    let replica = &mut plain.replicas[place];
+    let input = Input::Envelope { envelope };
+    assert!(rt; replica.is_within(&input));
+    Ok(replica.step(input)?)
 }
 
 fn batched(replica: &mut Replica, alloc: Global, host: u8) -> Result<Vec<Note>, Fail> {
@@ -407,32 +413,32 @@ fn batched(replica: &mut Replica, alloc: Global, host: u8) -> Result<Vec<Note>, 
     Ok([note].to_vec(alloc)?)
 }
 
-fn at_host(replica: &mut Replica, alloc: Global, step: Step) -> Result<Vec<Note>, Fail> {
+fn at_host(replica: &mut Replica, alloc: Global, step: LaneStep) -> Result<Vec<Note>, Fail> {
     match step {
-        Step::Timeout(_) => Ok(replica.step(Input::Timeout)?),
-        Step::Beat(_) => Ok(replica.step(Input::Beat)?),
-        Step::Ready(host) => batched(replica, alloc, host),
-        Step::Saved(_, id) => Ok(replica.saved(id)?),
-        Step::Propose(host, serial) => Ok(replica.step(Input::Propose {
+        LaneStep::Timeout(_) => Ok(replica.step(Input::Timeout)?),
+        LaneStep::Beat(_) => Ok(replica.step(Input::Beat)?),
+        LaneStep::Ready(host) => batched(replica, alloc, host),
+        LaneStep::Saved(_, id) => Ok(replica.saved(id)?),
+        LaneStep::Propose(host, serial) => Ok(replica.step(Input::Propose {
             key: key(host, serial),
             proposal: Proposal::Register { client: 1 },
         })?),
-        Step::Ask(host, serial) => Ok(replica.step(Input::Ask {
+        LaneStep::Ask(host, serial) => Ok(replica.step(Input::Ask {
             key: key(host, serial),
         })?),
-        Step::Deliver(_) => Ok(Vec::new(alloc)),
+        LaneStep::Deliver(_) => Ok(Vec::new(alloc)),
     }
 }
 
-fn host_of(step: Step, wire: &[Envelope]) -> u8 {
+fn host_of(step: LaneStep, wire: &[Envelope]) -> u8 {
     match step {
-        Step::Timeout(host) => host,
-        Step::Beat(host) => host,
-        Step::Ready(host) => host,
-        Step::Saved(host, _) => host,
-        Step::Propose(host, _) => host,
-        Step::Ask(host, _) => host,
-        Step::Deliver(number) => match wire.get(number.saturating_sub(1) as usize) {
+        LaneStep::Timeout(host) => host,
+        LaneStep::Beat(host) => host,
+        LaneStep::Ready(host) => host,
+        LaneStep::Saved(host, _) => host,
+        LaneStep::Propose(host, _) => host,
+        LaneStep::Ask(host, _) => host,
+        LaneStep::Deliver(number) => match wire.get(number.saturating_sub(1) as usize) {
             None => 0,
             Some(envelope) => envelope.to,
         },
@@ -443,14 +449,14 @@ fn at_plain(
     rt: &impl Abort,
     alloc: Global,
     plain: &mut Plain,
-    step: Step,
+    step: LaneStep,
 ) -> Result<Vec<Note>, Fail> {
     let host = host_of(step, &plain.wire);
     assert!(rt; 1 <= host);
     let place = host as usize - 1;
     assert!(rt; place < plain.replicas.len());
     let notes = match step {
-        Step::Deliver(number) => delivered(rt, alloc, plain, number)?,
+        LaneStep::Deliver(number) => delivered(rt, alloc, plain, number)?,
         _ => at_host(&mut plain.replicas[place], alloc, step)?,
     };
     assert!(rt; place < plain.replicas.len());
@@ -465,24 +471,24 @@ fn draw(random: &mut Pcg32, count: u64) -> u64
     u64::from(random.next_word()) % count
 }
 
-fn drawn(random: &mut Pcg32, lane: &Lane, host: u8, serial: u64) -> Step {
+fn drawn(random: &mut Pcg32, lane: &Lane, host: u8, serial: u64) -> LaneStep {
     let newest = lane.newest().min(1 << 40);
     let kind = draw(random, 200);
     let back = draw(random, 12);
     match kind {
-        0 => Step::Timeout(host),
-        1..=4 => Step::Beat(host),
-        5..=10 => Step::Propose(host, serial),
-        11..=14 => Step::Ask(host, serial),
+        0 => LaneStep::Timeout(host),
+        1..=4 => LaneStep::Beat(host),
+        5..=10 => LaneStep::Propose(host, serial),
+        11..=14 => LaneStep::Ask(host, serial),
         15..=90 => match lane.batch(host) {
-            Some(batch) => Step::Saved(host, batch.id),
-            None => Step::Ready(host),
+            Some(batch) => LaneStep::Saved(host, batch.id),
+            None => LaneStep::Ready(host),
         },
         _ => {
             if newest == 0 {
-                Step::Ready(host)
+                LaneStep::Ready(host)
             } else {
-                Step::Deliver(newest.saturating_sub(back).max(1))
+                LaneStep::Deliver(newest.saturating_sub(back).max(1))
             }
         }
     }

@@ -27,7 +27,7 @@ use Rattle.raft_entries.proofs.Groups.Events.{stays_by}
 -- a replica stays numbered with each input
 step_numbered : (b : SavedState) (s : Seat) (input : Input) (r : Replica) → Given (λ key p. ⊤) IsMail input → IsNumbered b (parts r)
     → IsNumbered b (parts (step s input r).replica) × All IsMail (step s input r).sent
-step_numbered b = step_by (numbered_words b (λ o. IfSome o (IsPending b)) (then_saved b)) tt
+step_numbered b s input r of k = step_by (numbered_words b (λ o. IfSome o (IsPending b)) (then_saved b) s) tt input r of (λ l. absurd l) k
 
 -- where nothing is pending, what will be saved is what is saved
 idle : (b : SavedState) (x : Parts) → x.pending ≡ None → Stands b b x → IsNumbered b x
@@ -41,10 +41,10 @@ save_numbered b s p r e h k =
     let pending : IsPending b p = subst (λ o. IfSome o (IsPending b)) e k.0 in
     let before : Stands b c (parts r) = subst (λ o. Stands b (then_saved b o) (parts r)) e k.1 in
     let settled = settles (parts r) (max r.log.front (min (batch_last p.batch) (r.from - 1))) (omega arith) (omega (arith, k.1.places)) before in
-    let q = saves_by (numbered_words c (λ o. ⊤) (λ o. c)) tt s p.batch r (tt, settled) in
+    let q = saves_by (numbered_words c (λ o. ⊤) (λ o. c) s) tt p.batch.term p.batch.vote (stabilised p.batch r) (tt, settled) in
     let voted = own_match s (own_vote s p.batch (stabilised p.batch r)).replica in
     let ends : Stands c c (parts (record voted { pending = None })) = holds (parts voted) voted.held None q.1.held q.1 in
-    let x = released_by (numbered_words c (λ o. o ≡ None) (λ o. c)) tt p.envelopes (saved_batch s p.batch r) pending.mail (refl, ends) in
+    let x = released_by (numbered_words c (λ o. o ≡ None) (λ o. c) s) tt p.envelopes (saved_batch s p.batch r) pending.mail (refl, ends) in
     (merges b p.batch h pending.batch pending.reaches, idle c (parts (saved s p r).replica) x.0.0 x.0.1, x.1)
 
 -- a numbered decided list goes on numbered by a numbered log

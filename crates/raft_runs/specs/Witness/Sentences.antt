@@ -3,7 +3,7 @@ use Rattle.std.specs.Prelude.{◌≡◌, ◌≢◌, ◌≤◌, ◌-◌, ◌==◌
 use Rattle.std.specs.List.{list_any}
 use Rattle.host_ids.specs.declared.entry.Entry.{Entry}
 use Rattle.wire_codec.specs.declared.envelope.Envelope.{Envelope}
-use Rattle.wire_codec.specs.declared.envelope.Body.TheVariants as kinds
+use Rattle.wire_codec.specs.declared.envelope.Body.TheVariants as bodies
 use Rattle.log_view.specs.Log.{Log, last, last_term}
 use Rattle.raft_model.specs.declared.note.Note.{Note}
 use Rattle.raft_model.specs.declared.note.Note.TheVariants as notes
@@ -23,7 +23,7 @@ LogsMatch g = (v w i j : ℕ) (a b c d : Entry) → entry_at (log_at g v) i ≡ 
 
 -- a host that answers an Append of its term's leader, as taken up to an index, holds what that leader holds up to there
 abbrev pub AnswersHold : Group → Type 0
-AnswersHold g = (k n j : ℕ) (e : Envelope) (a b : Entry) → slice_get g.wire k ≡ Some e → e.body ≡ kinds.AppendReply true n
+AnswersHold g = (k n j : ℕ) (e : Envelope) (a b : Entry) → slice_get g.wire k ≡ Some e → e.body ≡ bodies.AppendReply true n
     → (replica_at g e.from).term ≡ e.term → (replica_at g e.to).term ≡ e.term → is_leader (replica_at g e.to) ≡ true
     → j ≤ n → entry_at (log_at g e.from) j ≡ Some a → entry_at (log_at g e.to) j ≡ Some b → a ≡ b
 
@@ -45,7 +45,7 @@ leads t (notes.Confirmed host key index) = false
 
 -- who answers that it has a snapshot answers a leader: somebody has led the answer's term
 abbrev pub AnswersAreLed : Ran → Type 0
-AnswersAreLed r = (k i n : ℕ) (e : Envelope) → slice_get r.group.wire k ≡ Some e → e.body ≡ kinds.SnapReply i n true → list_any (leads e.term) r.notes ≡ true
+AnswersAreLed r = (k i n : ℕ) (e : Envelope) → slice_get r.group.wire k ≡ Some e → e.body ≡ bodies.SnapReply i n true → list_any (leads e.term) r.notes ≡ true
 
 -- from one group to a later one no host's commit index falls
 abbrev pub CommitsStay : Group → Group → Type 0
@@ -61,7 +61,7 @@ LogsInTerm g = (v : ℕ) → last_term (log_at g v) ≤ (replica_at g v).term
 
 -- a candidate's log is of no term above the one that it asks for votes in
 abbrev pub VotesInTerm : Group → Type 0
-VotesInTerm g = (k l t : ℕ) (e : Envelope) → slice_get g.wire k ≡ Some e → e.body ≡ kinds.Vote l t → t ≤ e.term
+VotesInTerm g = (k l t : ℕ) (e : Envelope) → slice_get g.wire k ≡ Some e → e.body ≡ bodies.Vote l t → t ≤ e.term
 
 -- what a leader has matched of a host in its term, that host's log reaches
 abbrev pub MatchedReached : Group → Type 0

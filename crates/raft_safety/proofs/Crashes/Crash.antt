@@ -6,7 +6,7 @@ use Rattle.host_ids.specs.declared.entry.Entry.{Entry}
 use Rattle.raft_model.specs.declared.saved.SavedState.{SavedState}
 use Rattle.wire_codec.specs.declared.envelope.Envelope.{Envelope}
 use Rattle.wire_codec.specs.declared.envelope.Body.{Body}
-use Rattle.wire_codec.specs.declared.envelope.Body.TheVariants as kinds
+use Rattle.wire_codec.specs.declared.envelope.Body.TheVariants as bodies
 use Rattle.log_view.specs.Log.{last}
 use Rattle.raft_model.specs.declared.state.State.{State as Replica}
 use Rattle.raft_model.specs.Replica.{fresh}
@@ -178,31 +178,31 @@ module _ {g : Group} {v : ℕ} {h : History} {b : SavedState} {r : Replica} {d :
 
   -- what is on the wire tells of what was saved, and so it does still
   tells : (from to t : ℕ) (body : Body) → from ≡ v → Tells h d A h.answer from to t body (of_batch d b) → Tells k d A k.answer from to t body (of_batch d b)
-  tells from to t (kinds.Vote l lt) e x = record {
+  tells from to t (bodies.Vote l lt) e x = record {
     some = x.some;
     vote = subst (λ y. h.vote y t ≡ from → k.vote y t ≡ from) (sym e) (kept_mine t from x.secured) x.vote;
     secured = x.secured;
     length = x.length;
     last = x.last;
   }
-  tells from to t (kinds.VoteReply granted) e x = λ yes. let a = x yes in record {
+  tells from to t (bodies.VoteReply granted) e x = λ yes. let a = x yes in record {
     some = a.some;
     vote = subst (λ y. h.vote y t ≡ to → k.vote y t ≡ to) (sym e) (kept_mine t to a.secured) a.vote;
     secured = a.secured;
   }
-  tells from to t (kinds.Append prev pt n es) e x = of_leader_grown o.common grows x
-  tells from to t (kinds.AppendReply ok n) e x = λ yes. let a = x yes in record {
+  tells from to t (bodies.Append prev pt n es) e x = of_leader_grown o.common grows x
+  tells from to t (bodies.AppendReply ok n) e x = λ yes. let a = x yes in record {
     since = a.since;
     present = λ same. holds_grown o.common grows (a.present same);
     counts = a.counts;
   }
-  tells from to t (kinds.Beat n round) e x = (of_leader_grown o.common grows x.0, x.1)
-  tells from to t (kinds.BeatReply round) e x = tt
-  tells from to t (kinds.SnapChunk index lt number count size bytes) e x = x
-  tells from to t (kinds.SnapReply n want all) e x = λ yes. let a = x yes in record { committed = a.committed; counts = a.counts }
-  tells from to t (kinds.Propose key p) e x = tt
-  tells from to t (kinds.ReadAsk key) e x = tt
-  tells from to t (kinds.ReadAnswer key n) e x = tt
+  tells from to t (bodies.Beat n round) e x = (of_leader_grown o.common grows x.0, x.1)
+  tells from to t (bodies.BeatReply round) e x = tt
+  tells from to t (bodies.SnapChunk index lt number count size bytes) e x = x
+  tells from to t (bodies.SnapReply n want all) e x = λ yes. let a = x yes in record { committed = a.committed; counts = a.counts }
+  tells from to t (bodies.Propose key p) e x = tt
+  tells from to t (bodies.ReadAsk key) e x = tt
+  tells from to t (bodies.ReadAnswer key n) e x = tt
 
   -- a host crashes, and stands as its saved state does
   pub crash_step : Open k g v b q d w

@@ -4,7 +4,7 @@ use Rattle.host_ids.specs.declared.entry.Entry.{Entry}
 use Rattle.raft_model.specs.declared.saved.SavedState.{SavedState}
 use Rattle.wire_codec.specs.declared.envelope.Envelope.{Envelope}
 use Rattle.wire_codec.specs.declared.envelope.Body.{Body}
-use Rattle.wire_codec.specs.declared.envelope.Body.TheVariants as kinds
+use Rattle.wire_codec.specs.declared.envelope.Body.TheVariants as bodies
 use Rattle.raft_model.specs.declared.state.State.{State as Replica}
 use Rattle.raft_model.specs.Group.{Group}
 use Rattle.raft_safety.specs.History.{History}
@@ -22,27 +22,27 @@ use Rattle.raft_safety.proofs.Frame.Tables.{at_pair, at_there, at_elsewhere, pai
 -- what an envelope tells of a host that has voted for nobody, it tells of the host after its vote
 pub tells_voted : (h : History) (d : List Entry) (Ans : ℕ → ℕ → ℕ → Type 0) (level : ℕ → ℕ → ℕ) (from to t : ℕ) (body : Body) (x : Stage) (c : ℕ) → x.vote ≡ 0 → Tells h d Ans level from to t body x
     → Tells h d Ans level from to t body (record x { vote = c })
-tells_voted h d Ans level from to t (kinds.Vote l lt) x c free q = record {
+tells_voted h d Ans level from to t (bodies.Vote l lt) x c free q = record {
   some = q.some;
   vote = q.vote;
   secured = ⊎_elim (λ m. inl m) (λ p. absurd (q.some (sym p.1 ∙ free))) q.secured;
   length = q.length;
   last = q.last;
 }
-tells_voted h d Ans level from to t (kinds.VoteReply granted) x c free q = λ yes. let a = q yes in record {
+tells_voted h d Ans level from to t (bodies.VoteReply granted) x c free q = λ yes. let a = q yes in record {
   some = a.some;
   vote = a.vote;
   secured = ⊎_elim (λ m. inl m) (λ p. absurd (a.some (sym p.1 ∙ free))) a.secured;
 }
-tells_voted h d Ans level from to t (kinds.Append prev pt n es) x c free q = q
-tells_voted h d Ans level from to t (kinds.AppendReply ok n) x c free q = λ yes. let a = q yes in record { since = a.since; present = a.present; counts = a.counts }
-tells_voted h d Ans level from to t (kinds.Beat n round) x c free q = q
-tells_voted h d Ans level from to t (kinds.BeatReply round) x c free q = tt
-tells_voted h d Ans level from to t (kinds.SnapChunk index lt number count size bytes) x c free q = q
-tells_voted h d Ans level from to t (kinds.SnapReply n want all) x c free q = λ yes. let a = q yes in record { committed = a.committed; counts = a.counts }
-tells_voted h d Ans level from to t (kinds.Propose key p) x c free q = tt
-tells_voted h d Ans level from to t (kinds.ReadAsk key) x c free q = tt
-tells_voted h d Ans level from to t (kinds.ReadAnswer key n) x c free q = tt
+tells_voted h d Ans level from to t (bodies.Append prev pt n es) x c free q = q
+tells_voted h d Ans level from to t (bodies.AppendReply ok n) x c free q = λ yes. let a = q yes in record { since = a.since; present = a.present; counts = a.counts }
+tells_voted h d Ans level from to t (bodies.Beat n round) x c free q = q
+tells_voted h d Ans level from to t (bodies.BeatReply round) x c free q = tt
+tells_voted h d Ans level from to t (bodies.SnapChunk index lt number count size bytes) x c free q = q
+tells_voted h d Ans level from to t (bodies.SnapReply n want all) x c free q = λ yes. let a = q yes in record { committed = a.committed; counts = a.counts }
+tells_voted h d Ans level from to t (bodies.Propose key p) x c free q = tt
+tells_voted h d Ans level from to t (bodies.ReadAsk key) x c free q = tt
+tells_voted h d Ans level from to t (bodies.ReadAnswer key n) x c free q = tt
 
 -- so do all envelopes in hand
 pub all_voted : (h : History) (d : List Entry) (Ans : ℕ → ℕ → ℕ → Type 0) (level : ℕ → ℕ → ℕ) (v : ℕ) (es : List Envelope) (x : Stage) (c : ℕ) → x.vote ≡ 0 → TellsAll h d Ans level v es x

@@ -3,7 +3,7 @@ use Rattle.std.proofs.Common.{◌≡◌, ◌≢◌, ℕ, ◌≤◌, List, length
 use Rattle.host_ids.specs.declared.entry.Entry.{Entry}
 use Rattle.raft_model.specs.declared.saved.SavedState.{SavedState}
 use Rattle.wire_codec.specs.declared.envelope.Envelope.{Envelope}
-use Rattle.wire_codec.specs.declared.envelope.Body.TheVariants as kinds
+use Rattle.wire_codec.specs.declared.envelope.Body.TheVariants as bodies
 use Rattle.raft_model.specs.declared.role.Role.TheVariants.{Candidate}
 use Rattle.raft_model.specs.declared.state.State.{State as Replica}
 use Rattle.roster.specs.Roster.{none_set}
@@ -43,5 +43,5 @@ module _ {g : Group} {v : ℕ} {h : History} {b : SavedState} {d : List Entry} {
 
   -- a candidate asks each other voter
   pub asked_step : {r : Replica} → r.role ≡ Candidate → Open h g v b r d w → Open h g v b (asked_votes (seat g v) r) d w
-  asked_step {r} role o = (each_other_stays (λ q. (q.role ≡ Candidate) × Open h g v b q d w) v (λ u q. sent (seat g v) u (kinds.Vote (last q.log) (last_term q.log)) q)
+  asked_step {r} role o = (each_other_stays (λ q. (q.role ≡ Candidate) × Open h g v b q d w) v (λ u q. sent (seat g v) u (bodies.Vote (last q.log) (last_term q.log)) q)
       (λ u q other x. (x.0, holding _ refl (asks x.0 x.1) x.1)) g.voters r (role, o)).1

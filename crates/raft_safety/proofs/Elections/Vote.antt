@@ -4,7 +4,7 @@ use Rattle.std.proofs.Common.{◌≡◌, ◌⊎◌, ⊎_elim, ℕ, ◌<◌, ◌�
 use Rattle.host_ids.specs.declared.entry.Entry.{Entry}
 use Rattle.raft_model.specs.declared.saved.SavedState.{SavedState}
 use Rattle.wire_codec.specs.declared.envelope.Envelope.{Envelope}
-use Rattle.wire_codec.specs.declared.envelope.Body.TheVariants as kinds
+use Rattle.wire_codec.specs.declared.envelope.Body.TheVariants as bodies
 use Rattle.raft_model.specs.declared.state.State.{State as Replica}
 use Rattle.raft_model.specs.Group.{Group, seat, term_of}
 use Rattle.raft_model.specs.Replica.{sent, in_term}
@@ -92,15 +92,15 @@ vote_row m l lt body g v h b r d w mine o to on =
     let oq = in_term_step m.term o in
     let a = delivered m oq on in
     let campaign : IsCampaign h m.from m.term l lt a.stage = subst (λ y. Tells h d (HasAnswer w) h.answer m.from m.to m.term y a.stage) body a.tells in
-    let answers : Bool → Replica = λ granted. sent (seat g v) m.from (kinds.VoteReply granted) (record q { vote = (voted m.from granted (election q)).vote }) in
+    let answers : Bool → Replica = λ granted. sent (seat g v) m.from (bodies.VoteReply granted) (record q { vote = (voted m.from granted (election q)).vote }) in
     ⊎_elim
     (λ given.
     let grant = granting (election q) m.from m.term l lt given in
     let least = in_term_most m.term r in
     let done = voted_for oq campaign a.secured grant (omega (arith, least, grant.term)) in
     subst (λ y. Reached g v b d w (answers y)) (sym given)
-    (reached (holding (record { from = v; to = m.from; group = g.number; term = q.term; body = kinds.VoteReply true }) refl
+    (reached (holding (record { from = v; to = m.from; group = g.number; term = q.term; body = bodies.VoteReply true }) refl
     (λ _. record { some = campaign.some; vote = done.vote; secured = inr (refl, refl) }) done.holds)))
     (λ refused. subst (λ y. Reached g v b d w (answers y)) (sym refused)
-    (reached (holding (record { from = v; to = m.from; group = g.number; term = q.term; body = kinds.VoteReply false }) refl (λ granted. absurd (cc)) oq)))
+    (reached (holding (record { from = v; to = m.from; group = g.number; term = q.term; body = bodies.VoteReply false }) refl (λ granted. absurd (cc)) oq)))
     (cases_Bool (grants (election q) m.from m.term l lt))

@@ -5,7 +5,7 @@ use Rattle.host_ids.specs.declared.entry.Entry.{Entry}
 use Rattle.raft_model.specs.declared.saved.SavedState.{SavedState}
 use Rattle.wire_codec.specs.declared.envelope.Envelope.{Envelope}
 use Rattle.wire_codec.specs.declared.envelope.Body.{Body}
-use Rattle.wire_codec.specs.declared.envelope.Body.TheVariants as kinds
+use Rattle.wire_codec.specs.declared.envelope.Body.TheVariants as bodies
 use Rattle.raft_model.specs.declared.state.State.{State as Replica}
 use Rattle.roster.specs.Roster.{at}
 use Rattle.raft_model.specs.Group.{term_of}
@@ -75,7 +75,7 @@ module _ {voters : List ℕ} {v : ℕ} {h k : History} {d e : List Entry} {Secur
   -- an envelope tells what it told, where its sender counts what it counted
   pub tells_grown : (now before : ℕ → ℕ → ℕ) (from : ℕ) → ((t c : ℕ) → c ≢ 0 → h.vote from t ≡ c → k.vote from t ≡ c) → ((t : ℕ) → before from t ≤ now from t) → (to t : ℕ) (body : Body) (x : Stage)
       → Tells h d Answers before from to t body x → Tells k e AnswersNow now from to t body x
-  tells_grown now before from kept more to t (kinds.Vote l lt) x q =
+  tells_grown now before from kept more to t (bodies.Vote l lt) x q =
       let same = g.campaigns from t from q.some q.vote in
       record {
         some = q.some;
@@ -84,23 +84,23 @@ module _ {voters : List ℕ} {v : ℕ} {h k : History} {d e : List Entry} {Secur
         length = ap (λ xs. length xs) same.0 ∙ q.length;
         last = ap (λ xs. term_of xs l) same.0 ∙ q.last;
       }
-  tells_grown now before from kept more to t (kinds.VoteReply granted) x q = λ yes. let a = q yes in record { some = a.some; vote = kept t to a.some a.vote; secured = a.secured }
-  tells_grown now before from kept more to t (kinds.Append prev pt c es) x q = of_leader_grown q
-  tells_grown now before from kept more to t (kinds.AppendReply ok n) x q = λ yes. let a = q yes in record {
+  tells_grown now before from kept more to t (bodies.VoteReply granted) x q = λ yes. let a = q yes in record { some = a.some; vote = kept t to a.some a.vote; secured = a.secured }
+  tells_grown now before from kept more to t (bodies.Append prev pt c es) x q = of_leader_grown q
+  tells_grown now before from kept more to t (bodies.AppendReply ok n) x q = λ yes. let a = q yes in record {
     since = a.since;
     present = λ same. holds_grown i g (a.present same);
     counts = ⊎_elim (λ c. inl (omega (arith, c, more t))) (λ l. inr (old_grown i g from t n l)) a.counts;
   }
-  tells_grown now before from kept more to t (kinds.Beat c round) x q = (of_leader_grown q.0, ⊎_elim (λ z. inl z) (λ a. inr (g.heard to t c a)) q.1)
-  tells_grown now before from kept more to t (kinds.BeatReply round) x q = tt
-  tells_grown now before from kept more to t (kinds.SnapChunk index lt number count size bytes) x q = decided_longer index lt g.decided q
-  tells_grown now before from kept more to t (kinds.SnapReply n want all) x q = λ yes. let a = q yes in record {
+  tells_grown now before from kept more to t (bodies.Beat c round) x q = (of_leader_grown q.0, ⊎_elim (λ z. inl z) (λ a. inr (g.heard to t c a)) q.1)
+  tells_grown now before from kept more to t (bodies.BeatReply round) x q = tt
+  tells_grown now before from kept more to t (bodies.SnapChunk index lt number count size bytes) x q = decided_longer index lt g.decided q
+  tells_grown now before from kept more to t (bodies.SnapReply n want all) x q = λ yes. let a = q yes in record {
     committed = a.committed;
     counts = ⊎_elim (λ c. inl (omega (arith, c, more t))) (λ l. inr (old_grown i g from t n l)) a.counts;
   }
-  tells_grown now before from kept more to t (kinds.Propose key p) x q = tt
-  tells_grown now before from kept more to t (kinds.ReadAsk key) x q = tt
-  tells_grown now before from kept more to t (kinds.ReadAnswer key n) x q = tt
+  tells_grown now before from kept more to t (bodies.Propose key p) x q = tt
+  tells_grown now before from kept more to t (bodies.ReadAsk key) x q = tt
+  tells_grown now before from kept more to t (bodies.ReadAnswer key n) x q = tt
 
   -- so does each of a list of envelopes
   pub tells_all_grown : (now before : ℕ → ℕ → ℕ) (u : ℕ) → ((t c : ℕ) → c ≢ 0 → h.vote u t ≡ c → k.vote u t ≡ c) → ((t : ℕ) → before u t ≤ now u t) → (es : List Envelope) (x : Stage)

@@ -6,7 +6,7 @@ use Rattle.host_ids.specs.declared.entry.Entry.{Entry}
 use Rattle.raft_model.specs.declared.saved.SavedState.{SavedState}
 use Rattle.wire_codec.specs.declared.envelope.Envelope.{Envelope}
 use Rattle.wire_codec.specs.declared.envelope.Body.{Body}
-use Rattle.wire_codec.specs.declared.envelope.Body.TheVariants as kinds
+use Rattle.wire_codec.specs.declared.envelope.Body.TheVariants as bodies
 use Rattle.raft_model.specs.declared.state.State.{State as Replica}
 use Rattle.read_index.specs.Reads.{Reads, closed}
 use Rattle.raft_model.specs.declared.role.Role.{Role}
@@ -31,21 +31,21 @@ pub record Outlives (h : History) (d : List Entry) (v : ℕ) (x y : Stage) : Typ
 -- what an envelope tells of a stage it tells of one that outlives it
 pub tells_on : {h : History} {d : List Entry} (Ans : ℕ → ℕ → ℕ → Type 0) (level : ℕ → ℕ → ℕ) {from : ℕ} (to t : ℕ) (body : Body) {x y : Stage} → ((t : ℕ) → level from t ≤ h.told from t)
     → Outlives h d from x y → Tells h d Ans level from to t body x → Tells h d Ans level from to t body y
-tells_on Ans level {from} to t (kinds.Vote l lt) below o q = record { some = q.some; vote = q.vote; secured = o.secured t from q.secured; length = q.length; last = q.last }
-tells_on Ans level to t (kinds.VoteReply granted) below o q = λ yes. let a = q yes in record { some = a.some; vote = a.vote; secured = o.secured t to a.secured }
-tells_on Ans level to t (kinds.Append prev pt c es) below o q = q
-tells_on Ans level to t (kinds.AppendReply ok n) {x} below o q = λ yes. let a = q yes in record {
+tells_on Ans level {from} to t (bodies.Vote l lt) below o q = record { some = q.some; vote = q.vote; secured = o.secured t from q.secured; length = q.length; last = q.last }
+tells_on Ans level to t (bodies.VoteReply granted) below o q = λ yes. let a = q yes in record { some = a.some; vote = a.vote; secured = o.secured t to a.secured }
+tells_on Ans level to t (bodies.Append prev pt c es) below o q = q
+tells_on Ans level to t (bodies.AppendReply ok n) {x} below o q = λ yes. let a = q yes in record {
   since = omega (arith, a.since, o.term);
   present = λ e. let same : x.term ≡ t = omega (arith, a.since, o.term, e) in o.holds t n same (a.present same) e;
   counts = a.counts;
 }
-tells_on Ans level to t (kinds.Beat c round) below o q = q
-tells_on Ans level to t (kinds.BeatReply round) below o q = tt
-tells_on Ans level to t (kinds.SnapChunk index lt number count size bytes) below o q = q
-tells_on Ans level to t (kinds.SnapReply n want all) below o q = λ yes. let a = q yes in record { committed = omega (arith, a.committed, o.commit); counts = a.counts }
-tells_on Ans level to t (kinds.Propose key p) below o q = tt
-tells_on Ans level to t (kinds.ReadAsk key) below o q = tt
-tells_on Ans level to t (kinds.ReadAnswer key n) below o q = tt
+tells_on Ans level to t (bodies.Beat c round) below o q = q
+tells_on Ans level to t (bodies.BeatReply round) below o q = tt
+tells_on Ans level to t (bodies.SnapChunk index lt number count size bytes) below o q = q
+tells_on Ans level to t (bodies.SnapReply n want all) below o q = λ yes. let a = q yes in record { committed = omega (arith, a.committed, o.commit); counts = a.counts }
+tells_on Ans level to t (bodies.Propose key p) below o q = tt
+tells_on Ans level to t (bodies.ReadAsk key) below o q = tt
+tells_on Ans level to t (bodies.ReadAnswer key n) below o q = tt
 
 -- so does each of a list of envelopes
 pub all_on : {h : History} {d : List Entry} (Ans : ℕ → ℕ → ℕ → Type 0) (level : ℕ → ℕ → ℕ) {v : ℕ} (es : List Envelope) {x y : Stage} → ((t : ℕ) → level v t ≤ h.told v t) → Outlives h d v x y

@@ -7,7 +7,7 @@ use Rattle.host_ids.specs.declared.entry.Entry.{Entry}
 use Rattle.raft_model.specs.declared.saved.SavedState.{SavedState}
 use Rattle.wire_codec.specs.declared.envelope.Envelope.{Envelope}
 use Rattle.wire_codec.specs.declared.envelope.Body.{Body}
-use Rattle.wire_codec.specs.declared.envelope.Body.TheVariants as kinds
+use Rattle.wire_codec.specs.declared.envelope.Body.TheVariants as bodies
 use Rattle.raft_model.specs.declared.event.LaneEvent.TheVariants as events
 use Rattle.raft_model.specs.declared.state.State.{State as Replica}
 use Rattle.raft_model.specs.Replica.{Row}
@@ -60,17 +60,17 @@ module _ (rows : Rows) where
     -- the row that an envelope on the wire meets keeps what it owes, whatever the envelope's kind
     body_row : v ≢ 0 → (m : Envelope) → m.to ≡ v → IsOnWire g.wire m → (body : Body) → m.body ≡ body
         → Reached g v (saved_at g v) g.decided g.wire (on_body (seat g v) m.from m.term body (replica_at g v)).replica
-    body_row some m to on (kinds.Vote l lt) e = at_host v k some (rows.vote m l lt e) to on
-    body_row some m to on (kinds.VoteReply granted) e = at_host v k some (rows.vote_reply m granted e) to on
-    body_row some m to on (kinds.Append prev pt c es) e = at_host v k some (rows.append m prev pt c es e) to on
-    body_row some m to on (kinds.AppendReply ok i) e = at_host v k some (rows.append_reply m ok i e) to on
-    body_row some m to on (kinds.Beat c round) e = at_host v k some (rows.beat m c round e) to on
-    body_row some m to on (kinds.BeatReply round) e = at_host v k some (rows.beat_reply m round) to on
-    body_row some m to on (kinds.SnapChunk index lt number count size bytes) e = at_host v k some (rows.chunk m index lt number count size bytes e) to on
-    body_row some m to on (kinds.SnapReply i want all) e = at_host v k some (rows.snap_reply m i want all e) to on
-    body_row some m to on (kinds.Propose key p) e = at_host v k some (rows.propose key p)
-    body_row some m to on (kinds.ReadAsk key) e = at_host v k some (rows.read_ask m.from key)
-    body_row some m to on (kinds.ReadAnswer key i) e = reached (opened k.holds v)
+    body_row some m to on (bodies.Vote l lt) e = at_host v k some (rows.vote m l lt e) to on
+    body_row some m to on (bodies.VoteReply granted) e = at_host v k some (rows.vote_reply m granted e) to on
+    body_row some m to on (bodies.Append prev pt c es) e = at_host v k some (rows.append m prev pt c es e) to on
+    body_row some m to on (bodies.AppendReply ok i) e = at_host v k some (rows.append_reply m ok i e) to on
+    body_row some m to on (bodies.Beat c round) e = at_host v k some (rows.beat m c round e) to on
+    body_row some m to on (bodies.BeatReply round) e = at_host v k some (rows.beat_reply m round) to on
+    body_row some m to on (bodies.SnapChunk index lt number count size bytes) e = at_host v k some (rows.chunk m index lt number count size bytes e) to on
+    body_row some m to on (bodies.SnapReply i want all) e = at_host v k some (rows.snap_reply m i want all e) to on
+    body_row some m to on (bodies.Propose key p) e = at_host v k some (rows.propose key p)
+    body_row some m to on (bodies.ReadAsk key) e = at_host v k some (rows.read_ask m.from key)
+    body_row some m to on (bodies.ReadAnswer key i) e = reached (opened k.holds v)
 
     -- a replica that is put in keeps the invariant where it has what a row leaves
     put_kept : (q : Replica) → v < 10 → Reached g v (saved_at g v) g.decided g.wire q → Kept (moved g v q [])

@@ -5,7 +5,7 @@ use Rattle.host_ids.specs.declared.entry.Key.{Key}
 use Rattle.raft_model.specs.declared.saved.SavedState.{SavedState}
 use Rattle.host_ids.specs.declared.proposal.Proposal.{Proposal}
 use Rattle.wire_codec.specs.declared.envelope.Envelope.{Envelope}
-use Rattle.wire_codec.specs.declared.envelope.Body.TheVariants as kinds
+use Rattle.wire_codec.specs.declared.envelope.Body.TheVariants as bodies
 use Rattle.raft_model.specs.declared.state.State.{State as Replica}
 use Rattle.raft_model.specs.declared.state.Pending.{Pending}
 use Rattle.roster.specs.Roster.{Seat}
@@ -53,23 +53,23 @@ AskRow = (key : Key) → InputRow (λ s r. on_ask s key r)
 
 -- what Vote owes
 abbrev pub VoteRow : Type 0
-VoteRow = (m : Envelope) (l lt : ℕ) → m.body ≡ kinds.Vote l lt → EnvelopeRow m (λ s r. on_vote s m.from m.term l lt r)
+VoteRow = (m : Envelope) (l lt : ℕ) → m.body ≡ bodies.Vote l lt → EnvelopeRow m (λ s r. on_vote s m.from m.term l lt r)
 
 -- what VoteReply owes
 abbrev pub VoteReplyRow : Type 0
-VoteReplyRow = (m : Envelope) (granted : Bool) → m.body ≡ kinds.VoteReply granted → EnvelopeRow m (λ s r. on_vote_reply s m.from m.term granted r)
+VoteReplyRow = (m : Envelope) (granted : Bool) → m.body ≡ bodies.VoteReply granted → EnvelopeRow m (λ s r. on_vote_reply s m.from m.term granted r)
 
 -- what Append owes
 abbrev pub AppendRow : Type 0
-AppendRow = (m : Envelope) (prev pt c : ℕ) (es : List Entry) → m.body ≡ kinds.Append prev pt c es → EnvelopeRow m (λ s r. on_append s m.from m.term prev pt c es r)
+AppendRow = (m : Envelope) (prev pt c : ℕ) (es : List Entry) → m.body ≡ bodies.Append prev pt c es → EnvelopeRow m (λ s r. on_append s m.from m.term prev pt c es r)
 
 -- what AppendReply owes
 abbrev pub AppendReplyRow : Type 0
-AppendReplyRow = (m : Envelope) (ok : Bool) (i : ℕ) → m.body ≡ kinds.AppendReply ok i → EnvelopeRow m (λ s r. on_append_reply s m.from m.term ok i r)
+AppendReplyRow = (m : Envelope) (ok : Bool) (i : ℕ) → m.body ≡ bodies.AppendReply ok i → EnvelopeRow m (λ s r. on_append_reply s m.from m.term ok i r)
 
 -- what Beat owes
 abbrev pub BeatRow : Type 0
-BeatRow = (m : Envelope) (c round : ℕ) → m.body ≡ kinds.Beat c round → EnvelopeRow m (λ s r. on_beat s m.from m.term c round r)
+BeatRow = (m : Envelope) (c round : ℕ) → m.body ≡ bodies.Beat c round → EnvelopeRow m (λ s r. on_beat s m.from m.term c round r)
 
 -- what BeatReply owes, whatever the envelope's body is
 abbrev pub BeatReplyRow : Type 0
@@ -89,12 +89,12 @@ SendChunkRow = (to : ℕ) (c : Chunk) → EachOpen (λ g v h b r d w. is_decided
 
 -- what SnapChunk owes
 abbrev pub ChunkRow : Type 0
-ChunkRow = (m : Envelope) (index lt number count size : ℕ) (bytes : List ℕ) → m.body ≡ kinds.SnapChunk index lt number count size bytes
+ChunkRow = (m : Envelope) (index lt number count size : ℕ) (bytes : List ℕ) → m.body ≡ bodies.SnapChunk index lt number count size bytes
     → EnvelopeRow m (λ s r. on_chunk s m.from (record { term = m.term; index = index; last_term = lt; number = number; count = count; size = size; bytes = bytes }) r)
 
 -- what SnapReply owes
 abbrev pub SnapReplyRow : Type 0
-SnapReplyRow = (m : Envelope) (i want : ℕ) (all : Bool) → m.body ≡ kinds.SnapReply i want all → EnvelopeRow m (λ s r. on_snap_reply s m.from m.term i all r)
+SnapReplyRow = (m : Envelope) (i want : ℕ) (all : Bool) → m.body ≡ bodies.SnapReply i want all → EnvelopeRow m (λ s r. on_snap_reply s m.from m.term i all r)
 
 -- what Installed owes of a decided place
 abbrev pub InstalledRow : Type 0

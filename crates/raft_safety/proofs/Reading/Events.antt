@@ -4,7 +4,7 @@ use Rattle.std.proofs.lemmas.Option.{same_Some}
 use Rattle.host_ids.specs.declared.entry.Key.{Key}
 use Rattle.wire_codec.specs.declared.envelope.Envelope.{Envelope}
 use Rattle.wire_codec.specs.declared.envelope.Body.{Body}
-use Rattle.wire_codec.specs.declared.envelope.Body.TheVariants as kinds
+use Rattle.wire_codec.specs.declared.envelope.Body.TheVariants as bodies
 use Rattle.raft_model.specs.declared.event.LaneEvent.{LaneEvent}
 use Rattle.raft_model.specs.declared.event.LaneEvent.TheVariants as events
 use Rattle.raft_model.specs.declared.note.Note.{Note}
@@ -69,18 +69,18 @@ module _ {g : Group} (p : HasReads g) (v : ℕ) where
 
     -- the row that it meets keeps the invariant of reads, whatever its kind
     body_out : (body : Body) → m.body ≡ body → RowOut g v (on_body (seat g v) m.from m.term body r)
-    body_out (kinds.Vote l lt) e = vote_out p v m.from m.term l lt
-    body_out (kinds.VoteReply granted) e = vote_reply_out p v m.from m.term granted
-    body_out (kinds.Append prev pt c es) e = append_out p v m.from m.term prev pt c es (told (kinds.Append prev pt c es) e).commit.right
-    body_out (kinds.AppendReply ok i) e = append_reply_out p v m.from m.term ok i
-    body_out (kinds.Beat c round) e = beat_out p v m.from m.term c round (told (kinds.Beat c round) e).0.commit.right (tells (kinds.Beat c round) e)
-    body_out (kinds.BeatReply round) e = beat_reply_out p v m.from m.term round (tells (kinds.BeatReply round) e)
-    body_out (kinds.SnapChunk index lt number count size bytes) e =
+    body_out (bodies.Vote l lt) e = vote_out p v m.from m.term l lt
+    body_out (bodies.VoteReply granted) e = vote_reply_out p v m.from m.term granted
+    body_out (bodies.Append prev pt c es) e = append_out p v m.from m.term prev pt c es (told (bodies.Append prev pt c es) e).commit.right
+    body_out (bodies.AppendReply ok i) e = append_reply_out p v m.from m.term ok i
+    body_out (bodies.Beat c round) e = beat_out p v m.from m.term c round (told (bodies.Beat c round) e).0.commit.right (tells (bodies.Beat c round) e)
+    body_out (bodies.BeatReply round) e = beat_reply_out p v m.from m.term round (tells (bodies.BeatReply round) e)
+    body_out (bodies.SnapChunk index lt number count size bytes) e =
         chunk_out p v m.from (record { term = m.term; index = index; last_term = lt; number = number; count = count; size = size; bytes = bytes })
-    body_out (kinds.SnapReply i want all) e = snap_reply_out p v m.from m.term i all
-    body_out (kinds.Propose key a) e = propose_out p v key a
-    body_out (kinds.ReadAsk key) e = read_ask_out p v m.from key (tells (kinds.ReadAsk key) e)
-    body_out (kinds.ReadAnswer key i) e = read_answer_out p v key i (tells (kinds.ReadAnswer key i) e)
+    body_out (bodies.SnapReply i want all) e = snap_reply_out p v m.from m.term i all
+    body_out (bodies.Propose key a) e = propose_out p v key a
+    body_out (bodies.ReadAsk key) e = read_ask_out p v m.from key (tells (bodies.ReadAsk key) e)
+    body_out (bodies.ReadAnswer key i) e = read_answer_out p v key i (tells (bodies.ReadAnswer key i) e)
 
   -- a replica that is put in keeps it where it has what a row owes
   put_reads : (q : Replica) → Does p.rounds g v q → v < 10 → Kept (aheads p.seals (moved g v q [])) → HasReads (moved g v q [])

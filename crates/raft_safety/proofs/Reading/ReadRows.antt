@@ -4,7 +4,7 @@ use Rattle.std.specs.Prelude.{nat_lt, nat_le}
 use Rattle.std.proofs.lemmas.Bool.{cond_both, and_parts, or_parts, or_cases, not-false, eqb-true, leb-true, ltb-false}
 use Rattle.host_ids.specs.declared.entry.Key.{Key}
 use Rattle.wire_codec.specs.declared.envelope.Envelope.{Envelope}
-use Rattle.wire_codec.specs.declared.envelope.Body.TheVariants as kinds
+use Rattle.wire_codec.specs.declared.envelope.Body.TheVariants as bodies
 use Rattle.raft_model.specs.declared.state.State.{State as Replica}
 use Rattle.read_index.specs.declared.reads.OpenRead.{OpenRead}
 use Rattle.raft_model.specs.declared.role.Role.TheVariants.{Candidate, Leader}
@@ -105,7 +105,7 @@ module _ {g : Group} (v : ℕ) {y : Rounds} {ms : List Envelope} (c : ReadsCommo
 
   -- it does so where it confirms a read that has its front
   confirmed_lead : (read : OpenRead) {w : Row} → AskedWithin g.asks read.key read.index → Confirming w → Confirming (confirmed s read w)
-  confirmed_lead read {w} a l = cond_both (read.origin == v) _ (record w { replica = sent_in 0 s read.origin (kinds.ReadAnswer read.key read.index) w.replica }) Confirming
+  confirmed_lead read {w} a l = cond_both (read.origin == v) _ (record w { replica = sent_in 0 s read.origin (bodies.ReadAnswer read.key read.index) w.replica }) Confirming
       (λ _. record { leading = l.leading; notes = notes_and g.asks w.notes (notes.Confirmed v read.key read.index ∷ []) l.notes (a, tt) })
       (λ _. let k = l.leading in record { leading = record { does = sends _ a k.does; role = k.role; term = k.term; reads = k.reads }; notes = l.notes })
 

@@ -6,7 +6,7 @@ use Rattle.std.specs.BTreeMap.{insert_entry}
 use Rattle.host_ids.specs.declared.entry.Key.{Key}
 use Rattle.wire_codec.specs.declared.envelope.Envelope.{Envelope}
 use Rattle.wire_codec.specs.declared.envelope.Body.{Body}
-use Rattle.wire_codec.specs.declared.envelope.Body.TheVariants as kinds
+use Rattle.wire_codec.specs.declared.envelope.Body.TheVariants as bodies
 use Rattle.raft_model.specs.declared.state.State.{State as Replica}
 use Rattle.read_index.specs.declared.reads.OpenRead.{OpenRead}
 use Rattle.raft_model.specs.declared.role.Role.TheVariants.{Leader}
@@ -45,10 +45,10 @@ module _ {x y : Rounds} {asks more : Asks} (l : Later x y asks more) where
 
   -- what an envelope tells of reads is so still
   tells_later : (from t : ℕ) (body : Body) → ReadTells x asks from t body → ReadTells y more from t body
-  tells_later from t (kinds.Beat c round) p = let m = l.count t in omega (arith, m, p)
-  tells_later from t (kinds.BeatReply round) p = heard_later t round from p
-  tells_later from t (kinds.ReadAsk key) p = record { first = p.first; asked = l.asked key p.first p.asked }
-  tells_later from t (kinds.ReadAnswer key i) p = within_later key i p
+  tells_later from t (bodies.Beat c round) p = let m = l.count t in omega (arith, m, p)
+  tells_later from t (bodies.BeatReply round) p = heard_later t round from p
+  tells_later from t (bodies.ReadAsk key) p = record { first = p.first; asked = l.asked key p.first p.asked }
+  tells_later from t (bodies.ReadAnswer key i) p = within_later key i p
   tells_later from t body p = tt
 
   -- and what each of some envelopes tells

@@ -7,7 +7,7 @@ use Rattle.std.proofs.lemmas.Bool.{ltb-false, le-leb, eqb-true, or_parts, not-fa
 use Rattle.host_ids.specs.declared.entry.Entry.{Entry}
 use Rattle.raft_model.specs.declared.saved.SavedState.{SavedState}
 use Rattle.wire_codec.specs.declared.envelope.Envelope.{Envelope}
-use Rattle.wire_codec.specs.declared.envelope.Body.TheVariants as kinds
+use Rattle.wire_codec.specs.declared.envelope.Body.TheVariants as bodies
 use Rattle.raft_model.specs.declared.state.State.{State as Replica}
 use Rattle.raft_model.specs.declared.role.Role.TheVariants.{Follower}
 use Rattle.raft_model.specs.declared.progress.Appended.TheVariants.{Stored}
@@ -52,10 +52,10 @@ module _ {g : Group} {v : ℕ} {k : History} {b : SavedState} {q : Replica} {d :
 
   -- the host takes the leader's commit index and answers for the place
   pub answer_step : {n : ℕ} → n ≤ length W → SameFrom q.commit n W R.log → (n ≤ k.told v q.term) ⊎ IsOld k d v q.term n → (from : ℕ)
-      → Open k g v b (sent (seat g v) from (kinds.AppendReply true n) (record q { commit = max q.commit (min c n) })) d w
+      → Open k g v b (sent (seat g v) from (bodies.AppendReply true n) (record q { commit = max q.commit (min c n) })) d w
   answer_step {n} here goes counts from =
       let commit = o.mine.stands.now.commit in
-      holding (record { from = v; to = from; group = g.number; term = q.term; body = kinds.AppendReply true n }) refl
+      holding (record { from = v; to = from; group = g.number; term = q.term; body = bodies.AppendReply true n }) refl
       (λ yes. record {
         since = omega arith;
         present = λ same. holds_all here (⊎_elim
@@ -69,12 +69,12 @@ module _ {g : Group} {v : ℕ} {k : History} {b : SavedState} {q : Replica} {d :
 -- a host tells that it holds what it has committed
 module _ {g : Group} {v : ℕ} {k : History} {b : SavedState} {q : Replica} {d : List Entry} {w : List Envelope} (o : Open k g v b q d w) (i c : ℕ) (low : i ≤ q.commit) where
   -- it answers for a place up to its commit index, and the commit index stays
-  pub low_answer_step : (from : ℕ) → Open k g v b (sent (seat g v) from (kinds.AppendReply true i) (record q { commit = max q.commit (min c i) })) d w
+  pub low_answer_step : (from : ℕ) → Open k g v b (sent (seat g v) from (bodies.AppendReply true i) (record q { commit = max q.commit (min c i) })) d w
   low_answer_step from =
       let commit = o.mine.stands.now.commit in
       let X = whole d q.log.front q.log.entries in
       let same : max q.commit (min c i) ≡ q.commit = omega (arith, low) in
-      holding (record { from = v; to = from; group = g.number; term = q.term; body = kinds.AppendReply true i }) refl
+      holding (record { from = v; to = from; group = g.number; term = q.term; body = bodies.AppendReply true i }) refl
       (λ yes. record {
         since = omega arith;
         present = λ e. holds_all (omega (arith, low, commit.left)) (record {
@@ -276,7 +276,7 @@ module _ {g : Group} {v : ℕ} {h : History} {b : SavedState} {r : Replica} {d :
   pub takes_row : Reached g v b d w (takes_append (seat g v) from prev pt c es r).replica
   takes_row =
       cond_both (lacks r.log prev pt) _ _ (λ (z : Took). Reached g v b d w (answers_append (seat g v) from c z.outcome (record r { log = z.log })).replica)
-      (λ _. reached (holding (record { from = v; to = from; group = g.number; term = r.term; body = kinds.AppendReply false (min (last r.log) (prev - 1)) }) refl (λ granted. absurd (cc)) o))
+      (λ _. reached (holding (record { from = v; to = from; group = g.number; term = r.term; body = bodies.AppendReply false (min (last r.log) (prev - 1)) }) refl (λ granted. absurd (cc)) o))
       stored_row
 
 -- the row of Append keeps the invariant
@@ -286,7 +286,7 @@ append_kept m prev pt c es body g v h b r0 d w some before to on =
     let o : Open h g v b r d w = in_term_step m.term before in
     let most : m.term ≤ r.term = in_term_most m.term r0 in
     either_row (nat_lt m.term r.term) _ _
-    (λ _. reached (holding (record { from = v; to = m.from; group = g.number; term = r.term; body = kinds.AppendReply false 0 }) refl (λ granted. absurd (cc)) o))
+    (λ _. reached (holding (record { from = v; to = m.from; group = g.number; term = r.term; body = bodies.AppendReply false 0 }) refl (λ granted. absurd (cc)) o))
     (λ new. either_row (is_leader r) _ _ (λ _. reached o)
     (λ _.
     let told = delivered m o on in

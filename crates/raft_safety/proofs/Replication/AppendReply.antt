@@ -7,7 +7,7 @@ use Rattle.std.proofs.lemmas.List.{get_or-set_same, get_or-set_other, set_past}
 use Rattle.host_ids.specs.declared.entry.Entry.{Entry}
 use Rattle.raft_model.specs.declared.saved.SavedState.{SavedState}
 use Rattle.wire_codec.specs.declared.envelope.Envelope.{Envelope}
-use Rattle.wire_codec.specs.declared.envelope.Body.TheVariants as kinds
+use Rattle.wire_codec.specs.declared.envelope.Body.TheVariants as bodies
 use Rattle.raft_model.specs.declared.state.State.{State as Replica}
 use Rattle.raft_model.specs.declared.role.Role.TheVariants.{Leader}
 use Rattle.log_view.specs.Log.{last}
@@ -62,7 +62,7 @@ progress_step {r = r} next matched o m =
 module _ {g : Group} {v : ℕ} {h : History} {b : SavedState} {r : Replica} {d : List Entry} {w : List Envelope} (o : Open h g v b r d w) (m : Envelope) (on : IsOnWire w m) (i : ℕ) where
   -- an answer to an append, or for a whole snapshot
   abbrev pub IsReply : Type 0
-  IsReply = (m.body ≡ kinds.AppendReply true i) ⊎ ((want : ℕ) × (m.body ≡ kinds.SnapReply i want true))
+  IsReply = (m.body ≡ bodies.AppendReply true i) ⊎ ((want : ℕ) × (m.body ≡ bodies.SnapReply i want true))
 
   -- what such an answer tells is saved by its sender, or is of a term that is over
   counted : IsReply → (i ≤ h.answer m.from m.term) ⊎ IsOld h d m.from m.term i
@@ -70,10 +70,10 @@ module _ {g : Group} {v : ℕ} {h : History} {b : SavedState} {r : Replica} {d :
       let told = delivered m o on in
       ⊎_elim
       (λ e.
-      let x : Tells h d (HasAnswer w) h.answer m.from m.to m.term (kinds.AppendReply true i) told.stage = subst (λ y. Tells h d (HasAnswer w) h.answer m.from m.to m.term y told.stage) e told.tells in
+      let x : Tells h d (HasAnswer w) h.answer m.from m.to m.term (bodies.AppendReply true i) told.stage = subst (λ y. Tells h d (HasAnswer w) h.answer m.from m.to m.term y told.stage) e told.tells in
       (x refl).counts)
       (λ e.
-      let x : Tells h d (HasAnswer w) h.answer m.from m.to m.term (kinds.SnapReply i e.0 true) told.stage = subst
+      let x : Tells h d (HasAnswer w) h.answer m.from m.to m.term (bodies.SnapReply i e.0 true) told.stage = subst
       (λ y. Tells h d (HasAnswer w) h.answer m.from m.to m.term y told.stage) e.1 told.tells in
       (x refl).counts)
       body
@@ -164,7 +164,7 @@ then_more_step {g} {v} u {b} {q} {d} {w} role x = record {
 
 -- an answer of its term at a leader: a matched index rises, or the leader steps back and sends an earlier stretch
 leader_row : {g : Group} {v : ℕ} {h : History} {b : SavedState} {r : Replica} {d : List Entry} {w : List Envelope} (m : Envelope) (i : ℕ) → Open h g v b r d w → IsOnWire w m → m.term ≡ r.term
-    → r.role ≡ Leader → (ok : Bool) → m.body ≡ kinds.AppendReply ok i
+    → r.role ≡ Leader → (ok : Bool) → m.body ≡ bodies.AppendReply ok i
     → Reached g v b d w (let q = with_progress (heard m.from ok i (progress r)) r in
     (let y : Row = if ok then quiet (more_to (seat g v) m.from (commit_rule (seat g v) q)) else quiet (append_to (seat g v) m.from q) in y)).replica
 leader_row {g} {v} {h} {b} {r} {d} {w} m i o on term role true body =

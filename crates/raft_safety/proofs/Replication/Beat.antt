@@ -8,7 +8,7 @@ use Rattle.host_ids.specs.declared.entry.Entry.{Entry}
 use Rattle.host_ids.specs.declared.entry.Key.{Key}
 use Rattle.raft_model.specs.declared.saved.SavedState.{SavedState}
 use Rattle.wire_codec.specs.declared.envelope.Envelope.{Envelope}
-use Rattle.wire_codec.specs.declared.envelope.Body.TheVariants as kinds
+use Rattle.wire_codec.specs.declared.envelope.Body.TheVariants as bodies
 use Rattle.raft_model.specs.declared.state.State.{State as Replica}
 use Rattle.read_index.specs.declared.reads.OpenRead.{OpenRead}
 use Rattle.read_index.specs.Reads.{Reads, closed}
@@ -34,7 +34,7 @@ use Rattle.raft_safety.proofs.Argument.Decided.{same_reign}
 
 module _ {g : Group} {v : ℕ} {h : History} {b : SavedState} {d : List Entry} {w : List Envelope} where
   -- a beat tells what its voter has matched of the commit index
-  beat_step : (u : ℕ) {r : Replica} → u ≢ v → Leads h g v b r d w → Leads h g v b (sent (seat g v) u (kinds.Beat (min (at r.matched u) r.commit) r.reads.round) r) d w
+  beat_step : (u : ℕ) {r : Replica} → u ≢ v → Leads h g v b r d w → Leads h g v b (sent (seat g v) u (bodies.Beat (min (at r.matched u) r.commit) r.reads.round) r) d w
   beat_step u {r} other x =
       let o = x.open_group in
       let s = o.mine.stands in
@@ -52,7 +52,7 @@ module _ {g : Group} {v : ℕ} {h : History} {b : SavedState} {d : List Entry} {
         commit = agree_less c (omega arith) commit;
       } in
       record {
-        open_group = holding (record { from = v; to = u; group = g.number; term = r.term; body = kinds.Beat c r.reads.round }) refl (
+        open_group = holding (record { from = v; to = u; group = g.number; term = r.term; body = bodies.Beat c r.reads.round }) refl (
           tells,
           ⊎_elim
               (λ none. inl (omega (arith, none)))
@@ -64,7 +64,7 @@ module _ {g : Group} {v : ℕ} {h : History} {b : SavedState} {d : List Entry} {
 
   -- a leader sends a beat to each other voter
   beats_step : {r : Replica} → Leads h g v b r d w → Leads h g v b (beats (seat g v) r) d w
-  beats_step {r} x = each_other_stays (λ q. Leads h g v b q d w) v (λ u q. sent (seat g v) u (kinds.Beat (min (at q.matched u) q.commit) q.reads.round) q) (λ u q other y. beat_step u other y) g.voters r x
+  beats_step {r} x = each_other_stays (λ q. Leads h g v b q d w) v (λ u q. sent (seat g v) u (bodies.Beat (min (at q.matched u) q.commit) q.reads.round) q) (λ u q other y. beat_step u other y) g.voters r x
 
   -- rounds and open reads change nothing that the invariant speaks of
   read_step : {r : Replica} (reads : Reads) → Leads h g v b r d w → Leads h g v b (record r { reads = reads }) d w
@@ -77,7 +77,7 @@ module _ {g : Group} {v : ℕ} {h : History} {b : SavedState} {d : List Entry} {
   confirmed_step : (read : OpenRead) (x : Row) → Leads h g v b x.replica d w → Leads h g v b (confirmed (seat g v) read x).replica d w
   confirmed_step read x l =
       cond_both (read.origin == v) _ _ (λ (z : Row). Leads h g v b z.replica d w) (λ _. l)
-      (λ _. record { open_group = holding (record { from = v; to = read.origin; group = g.number; term = 0; body = kinds.ReadAnswer read.key read.index }) refl tt l.open_group; role = l.role })
+      (λ _. record { open_group = holding (record { from = v; to = read.origin; group = g.number; term = 0; body = bodies.ReadAnswer read.key read.index }) refl tt l.open_group; role = l.role })
 
   -- of some open reads those that a majority has answered are confirmed, and the others stay
   confirm_step : (reads : List OpenRead) (x : Row) → Leads h g v b x.replica d w → Leads h g v b (confirm (seat g v) reads x).replica d w
@@ -119,7 +119,7 @@ pub ask_kept : AskRow
 ask_kept key g v h b r d w some o =
     either_row (is_full r) _ _ (λ _. reached o)
     (λ _. either_row (is_leader r) _ _ (λ e. either_row (may_read r) _ _ (λ _. reads_row o e key v) (λ _. reached o))
-    (λ _. either_row (r.leader == 0) _ _ (λ _. reached o) (λ _. reached (holding (record { from = v; to = r.leader; group = g.number; term = 0; body = kinds.ReadAsk key }) refl tt o))))
+    (λ _. either_row (r.leader == 0) _ _ (λ _. reached o) (λ _. reached (holding (record { from = v; to = r.leader; group = g.number; term = 0; body = bodies.ReadAsk key }) refl tt o))))
 
 -- the row of BeatReply keeps the invariant
 pub beat_reply_kept : BeatReplyRow
@@ -147,14 +147,14 @@ module _ {g : Group} {v : ℕ} {h : History} {b : SavedState} {r : Replica} {d :
       let told = (o.sent a.envelope a.there a.from).now in
       ⊎_elim
       (λ e.
-      let y : Tells h d (HasAnswer w) h.answer a.envelope.from a.envelope.to a.envelope.term (kinds.AppendReply true a.index) (of_replica d r) =
+      let y : Tells h d (HasAnswer w) h.answer a.envelope.from a.envelope.to a.envelope.term (bodies.AppendReply true a.index) (of_replica d r) =
       subst (λ z. Tells h d (HasAnswer w) h.answer a.envelope.from a.envelope.to a.envelope.term z (of_replica d r)) e told in
       let z : HoldsUpTo h d r.commit W r.term (min a.index (length W)) = subst (λ t. HoldsUpTo h d r.commit W t (min a.index (length W))) a.term ((y refl).present (sym a.term)) in
       let p = z.rest (omega (arith, z.limited, past, low, short, a.most)) in
       let S : p.0 ≡ R = same_reign o.common p.0 R p.1 x.led (p.2 ∙ sym x.term) in
       within_leader o R x.led x.term x.commit z.limited z.within (subst (λ T. SameFrom z.decided (min a.index (length W)) W T.log) S p.3) i (omega (arith, low, short, a.most)) low)
       (λ e.
-      let y : Tells h d (HasAnswer w) h.answer a.envelope.from a.envelope.to a.envelope.term (kinds.SnapReply a.index e.0 true) (of_replica d r) =
+      let y : Tells h d (HasAnswer w) h.answer a.envelope.from a.envelope.to a.envelope.term (bodies.SnapReply a.index e.0 true) (of_replica d r) =
       subst (λ z. Tells h d (HasAnswer w) h.answer a.envelope.from a.envelope.to a.envelope.term z (of_replica d r)) e.1 told in
       absurd (omega (arith, (y refl).committed, low, past, a.most)))
       a.body
@@ -176,12 +176,12 @@ beat_kept m c round body g v h b r0 d w some before to on =
     let r = in_term m.term r0 in
     let o : Open h g v b r d w = in_term_step m.term before in
     either_row (nat_lt m.term r.term) _ _
-    (λ _. reached (holding (record { from = v; to = m.from; group = g.number; term = r.term; body = kinds.BeatReply 0 }) refl tt o))
+    (λ _. reached (holding (record { from = v; to = m.from; group = g.number; term = r.term; body = bodies.BeatReply 0 }) refl tt o))
     (λ new. either_row (is_leader r) _ _ (λ _. reached o)
     (λ _.
     let told = delivered m o on in
     let same : m.term ≡ r.term = (let low = ltb-false m.term r.term new in let most = in_term_most m.term r0 in omega (arith, low, most)) in
-    let x : Tells h d (HasAnswer w) h.answer m.from m.to m.term (kinds.Beat c round) told.stage = subst (λ y. Tells h d (HasAnswer w) h.answer m.from m.to m.term y told.stage) body told.tells in
+    let x : Tells h d (HasAnswer w) h.answer m.from m.to m.term (bodies.Beat c round) told.stage = subst (λ y. Tells h d (HasAnswer w) h.answer m.from m.to m.term y told.stage) body told.tells in
     let y : (c ≡ 0) ⊎ HasAnswer w v r.term c = subst (λ t. (c ≡ 0) ⊎ HasAnswer w v t c) same (subst (λ u. (c ≡ 0) ⊎ HasAnswer w u m.term c) to x.1) in
-    reached (holding (record { from = v; to = m.from; group = g.number; term = r.term; body = kinds.BeatReply round }) refl tt
+    reached (holding (record { from = v; to = m.from; group = g.number; term = r.term; body = bodies.BeatReply round }) refl tt
     (beat_row (follow_step m.from o) (subst (λ t. IsOfLeader h d m.from t 0 0 c []) same x.0) y))))

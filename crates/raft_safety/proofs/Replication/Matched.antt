@@ -5,7 +5,7 @@ use Rattle.std.proofs.lemmas.Bool.{cases_eq, leb-true}
 use Rattle.host_ids.specs.declared.entry.Entry.{Entry}
 use Rattle.raft_model.specs.declared.saved.SavedState.{SavedState}
 use Rattle.wire_codec.specs.declared.envelope.Envelope.{Envelope}
-use Rattle.wire_codec.specs.declared.envelope.Body.TheVariants as kinds
+use Rattle.wire_codec.specs.declared.envelope.Body.TheVariants as bodies
 use Rattle.raft_model.specs.declared.state.State.{State as Replica}
 use Rattle.raft_model.specs.declared.role.Role.TheVariants.{Leader}
 use Rattle.roster.specs.Roster.{at, is_majority}
@@ -33,11 +33,11 @@ module _ {g : Group} {v : ℕ} {h : History} {b : SavedState} {r : Replica} {d :
       subst (λ s. (i ≤ h.answer u s) ⊎ IsOld h d u s i) a.term (subst (λ p. (i ≤ h.answer p E.term) ⊎ IsOld h d p E.term i) from most) in
       ⊎_elim
       (λ e.
-      let x : Tells h d (HasAnswer w) h.answer E.from E.to E.term (kinds.AppendReply true a.index) told.stage =
+      let x : Tells h d (HasAnswer w) h.answer E.from E.to E.term (bodies.AppendReply true a.index) told.stage =
       subst (λ y. Tells h d (HasAnswer w) h.answer E.from E.to E.term y told.stage) e told.tells in
       all a.from (x refl).counts)
       (λ e.
-      let x : Tells h d (HasAnswer w) h.answer E.from E.to E.term (kinds.SnapReply a.index e.0 true) told.stage =
+      let x : Tells h d (HasAnswer w) h.answer E.from E.to E.term (bodies.SnapReply a.index e.0 true) told.stage =
       subst (λ y. Tells h d (HasAnswer w) h.answer E.from E.to E.term y told.stage) e.1 told.tells in
       all a.from (x refl).counts)
       a.body

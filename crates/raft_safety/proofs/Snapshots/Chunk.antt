@@ -5,7 +5,7 @@ use Rattle.std.proofs.lemmas.Bool.{leb-true, eqb-true, and_parts}
 use Rattle.host_ids.specs.declared.entry.Entry.{Entry}
 use Rattle.raft_model.specs.declared.saved.SavedState.{SavedState}
 use Rattle.wire_codec.specs.declared.envelope.Envelope.{Envelope}
-use Rattle.wire_codec.specs.declared.envelope.Body.TheVariants as kinds
+use Rattle.wire_codec.specs.declared.envelope.Body.TheVariants as bodies
 use Rattle.raft_model.specs.declared.chunk.Chunk.{Chunk}
 use Rattle.raft_model.specs.declared.state.State.{State as Replica}
 use Rattle.raft_model.specs.declared.state.Inbox.{Inbox}
@@ -36,7 +36,7 @@ inbox_step {r = r} assembly inbox o decided =
 -- a chunk of a decided place may be sent
 pub send_chunk_row : SendChunkRow
 send_chunk_row to c g v h b r d w some o decided =
-    reached (holding (record { from = v; to = to; group = g.number; term = c.term; body = kinds.SnapChunk c.index c.last_term c.number c.count c.size c.bytes }) refl decided o)
+    reached (holding (record { from = v; to = to; group = g.number; term = c.term; body = bodies.SnapChunk c.index c.last_term c.number c.count c.size c.bytes }) refl decided o)
 
 -- a chunk of a decided place at one that doesn't lead
 module _ {g : Group} {v : ℕ} {h : History} {b : SavedState} {r : Replica} {d : List Entry} {w : List Envelope} (o : Open h g v b r d w) (from : ℕ) (c : Chunk)
@@ -46,10 +46,10 @@ module _ {g : Group} {v : ℕ} {h : History} {b : SavedState} {r : Replica} {d :
   take_row =
       let t = taken r.assembly c in
       elim t.whole as (λ x. Reached g v b d w (let q : Replica = elim x as (λ _. Replica) [
-        | None ↦ sent (seat g v) from (kinds.SnapReply c.index t.want false) (record r { assembly = t.hand })
+        | None ↦ sent (seat g v) from (bodies.SnapReply c.index t.want false) (record r { assembly = t.hand })
         | Some bytes ↦ record r { assembly = t.hand; inbox = Some (record { received = record { index = c.index; term = c.last_term; bytes = bytes }; sender = from; count = c.count }) }
       ] in q)) [
-        | None ↦ reached (holding (record { from = v; to = from; group = g.number; term = r.term; body = kinds.SnapReply c.index t.want false }) refl (λ yes. absurd (cc))
+        | None ↦ reached (holding (record { from = v; to = from; group = g.number; term = r.term; body = bodies.SnapReply c.index t.want false }) refl (λ yes. absurd (cc))
             (inbox_step t.hand r.inbox o o.mine.inbox))
         | Some bytes ↦
             let x : Inbox = record { received = record { index = c.index; term = c.last_term; bytes = bytes }; sender = from; count = c.count } in
@@ -57,8 +57,8 @@ module _ {g : Group} {v : ℕ} {h : History} {b : SavedState} {r : Replica} {d :
       ]
 
   -- a host that has committed the place says that it needs no more
-  covered_row : c.index ≤ r.commit → Reached g v b d w (sent (seat g v) from (kinds.SnapReply c.index (c.count + 1) true) r)
-  covered_row low = reached (holding (record { from = v; to = from; group = g.number; term = r.term; body = kinds.SnapReply c.index (c.count + 1) true }) refl
+  covered_row : c.index ≤ r.commit → Reached g v b d w (sent (seat g v) from (bodies.SnapReply c.index (c.count + 1) true) r)
+  covered_row low = reached (holding (record { from = v; to = from; group = g.number; term = r.term; body = bodies.SnapReply c.index (c.count + 1) true }) refl
       (λ yes. record { committed = low; counts = old_answer o h.told c.index low }) o)
 
 -- the row of SnapChunk keeps the invariant
@@ -72,7 +72,7 @@ chunk_row m index lt number count size bytes body g v h b r0 d w some before to 
     let f : Replica = follows m.from r in
     let of : Open h g v b f d w = follow_step m.from o in
     either_row (nat_lt m.term r.term) _ _
-    (λ _. reached (holding (record { from = v; to = m.from; group = g.number; term = r.term; body = kinds.SnapReply index 0 false }) refl (λ whole. absurd (cc)) o))
+    (λ _. reached (holding (record { from = v; to = m.from; group = g.number; term = r.term; body = bodies.SnapReply index 0 false }) refl (λ whole. absurd (cc)) o))
     (λ _. either_row (is_leader r) _ _ (λ _. reached o)
     (λ _. either_row (nat_le index r.commit) _ _ (λ e. covered_row of m.from c decided (leb-true index r.commit e)) (λ _. take_row of m.from c decided)))
 
@@ -86,7 +86,7 @@ snap_reply_row m i want all body g v h b r0 d w some before to on =
     (λ e.
     let parts = and_parts (all && (m.term == r.term)) (is_leader r) e in
     let first = and_parts all (m.term == r.term) parts.0 in
-    let is : m.body ≡ kinds.SnapReply i want true = body ∙ ap (kinds.SnapReply i want) first.0 in
+    let is : m.body ≡ bodies.SnapReply i want true = body ∙ ap (bodies.SnapReply i want) first.0 in
     reached (more_to_step m.from (record {
       open_group = progress_step p.next p.matched o (λ x. more_matched o m on i (inr (want, is)) (eqb-true m.term r.term first.1) (o.mine.stands.leader x));
       role = leads r parts.1;

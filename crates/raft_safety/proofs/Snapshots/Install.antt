@@ -8,7 +8,7 @@ use Rattle.std.proofs.lemmas.List.{length-drop, length-take-le, append-nil, take
 use Rattle.host_ids.specs.declared.entry.Entry.{Entry}
 use Rattle.raft_model.specs.declared.saved.SavedState.{SavedState}
 use Rattle.wire_codec.specs.declared.envelope.Envelope.{Envelope}
-use Rattle.wire_codec.specs.declared.envelope.Body.TheVariants as kinds
+use Rattle.wire_codec.specs.declared.envelope.Body.TheVariants as bodies
 use Rattle.raft_model.specs.declared.role.Role.TheVariants.{Follower, Candidate, Leader}
 use Rattle.raft_model.specs.declared.state.State.{State as Replica}
 use Rattle.raft_model.specs.declared.state.Inbox.{Inbox}
@@ -257,7 +257,7 @@ module _ {g : Group} {v : ℕ} {h : History} {b : SavedState} {r : Replica} {d :
   -- the sender of the snapshot is told that it is there
   replied_row : {r2 : Replica} → i ≤ r2.commit → Open h g v b r2 d w → (x : Option Inbox) → Reached g v b d w (replied (seat g v) i x r2)
   replied_row low o2 None = reached o2
-  replied_row {r2} low o2 (Some x) = reached (holding (record { from = v; to = x.sender; group = g.number; term = r2.term; body = kinds.SnapReply i (x.count + 1) true }) refl
+  replied_row {r2} low o2 (Some x) = reached (holding (record { from = v; to = x.sender; group = g.number; term = r2.term; body = bodies.SnapReply i (x.count + 1) true }) refl
       (λ yes. record { committed = low; counts = old_answer o2 h.told i low }) o2)
 
   -- a snapshot of a place after the commit index is installed

@@ -1,4 +1,3 @@
-use super::given::check;
 use host_ids::{Key, Proposal};
 use raft_core::{Input, Note, Replica};
 use std::alloc::Global;
@@ -69,11 +68,13 @@ fn act(rt: &impl Abort, group: &mut Group, place: usize, key: Key, what: u8) -> 
 }
 
 fn deliver(rt: &impl Abort, group: &mut Group, envelope: Envelope) -> Result<(), Fail> {
-    check(rt, &envelope);
+    assert!(rt; 1 <= envelope.to);
     let place = envelope.to as usize - 1;
     assert!(rt; place < group.replicas.len());
     let replica = &mut group.replicas[place];
-    let mut notes = replica.step(Input::Envelope { envelope })?;
+    let input = Input::Envelope { envelope };
+    assert!(rt; replica.is_within(&input));
+    let mut notes = replica.step(input)?;
     group.notes.append(&mut notes)?;
     post(replica, &mut group.wire)
 }

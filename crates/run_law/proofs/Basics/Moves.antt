@@ -3,7 +3,7 @@ use Rattle.std.proofs.Common.{◌≡◌, ℕ, List, [], ◌∷◌, ◌++◌, ref
 use Rattle.std.proofs.lemmas.Grind.{flat_map-append}
 use Rattle.object_model.specs.declared.mark.Mark.{Mark}
 use Rattle.object_model.specs.Desk.{Request, Desk, Grows, Move, Moves}
-use Rattle.run_model.specs.declared.told.Told.{Told}
+use Rattle.script_text.specs.declared.told.Told.{Told}
 use Rattle.run_model.specs.Marks.{marks_of}
 
 -- a desk grows into itself, by nothing

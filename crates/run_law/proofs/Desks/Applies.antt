@@ -6,7 +6,8 @@ use Rattle.std.proofs.lemmas.Bool.{cases_lt}
 use Rattle.std.proofs.lemmas.List.{length-take, drop-take, take-take}
 use Rattle.host_ids.specs.declared.entry.Entry.{Entry}
 use Rattle.object_model.specs.Desk.{Request, Desk, Moves, MovesJoin}
-use Rattle.run_model.specs.World.{Node, new_node, most_sessions}
+use Rattle.run_model.specs.World.{Node, new_node}
+use Rattle.host_ids.specs.declared.proposal.TheConstants.{MOST_SESSIONS}
 use Rattle.run_model.specs.Run.{Applied, applied, due, keys_with, answers_due, fed}
 use Rattle.run_model.specs.Marks.{marks_of}
 use Rattle.run_law.specs.Lawful.{placed}
@@ -57,7 +58,7 @@ feeds laws h limit k book decided nodes contexts d join room f =
       list = f.decided ∙ ap (λ (l : List Entry). map (placed contexts) l) whole;
       contexts_are = contexts_there book contexts h f.contexts;
       fed = fed_list h limit mine decided node fits;
-      open_ones = f.open_ones ∙ opens_around book h nodes (new_node most_sessions) room;
+      open_ones = f.open_ones ∙ opens_around book h nodes (new_node MOST_SESSIONS) room;
       wanted = fits.wants;
     } in
     let named : AllByRecursion (Named book) es = all_take (Named book) k (drop n decided) (all_drop (Named book) n decided f.named) in

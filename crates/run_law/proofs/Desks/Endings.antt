@@ -16,7 +16,7 @@ use Rattle.object_model.specs.Sequence.{history, proposals_of}
 use Rattle.object_model.specs.Desk.{Request, Desk, Moves, EndMove, PlaceMove, MovesJoin}
 use Rattle.run_model.specs.declared.told.Want.{Want}
 use Rattle.run_model.specs.declared.told.Want.TheVariants as wants
-use Rattle.run_model.specs.declared.line.Line.TheVariants as lines
+use Rattle.script_text.specs.declared.line.Line.TheVariants as lines
 use Rattle.run_model.specs.World.{Cell, contexts_at}
 use Rattle.run_model.specs.Run
 use Rattle.run_model.specs.Run.{context_at, Applied, applied, applied_by, answered, given, ending_of, want_of, without}

@@ -7,7 +7,8 @@ use Rattle.std.proofs.lemmas.List.{take-append-le, map-append, length-map, lengt
 use Rattle.host_ids.specs.declared.entry.Entry.{Entry}
 use Rattle.object_model.specs.declared.mark.What.TheVariants as whats
 use Rattle.object_model.specs.Desk.{Request, Desk, empty_desk, Grows}
-use Rattle.run_model.specs.World.{Node, new_node, most_sessions}
+use Rattle.run_model.specs.World.{Node, new_node}
+use Rattle.host_ids.specs.declared.proposal.TheConstants.{MOST_SESSIONS}
 use Rattle.run_law.specs.Lawful.{placed}
 use Rattle.run_law.proofs.Basics.Lists.{all_append, all_map}
 use Rattle.run_law.proofs.Requests.Serials.{contexts_of, Wanted, Waits, wanted_more, reading_more, more_contexts}
@@ -27,7 +28,7 @@ pub record NodeFits (u limit : ℕ) (mine : List Request) (decided : List Entry)
 
 -- a host's node
 abbrev pub at_host : List Node → ℕ → Node
-at_host ns u = get_or ns u (new_node most_sessions)
+at_host ns u = get_or ns u (new_node MOST_SESSIONS)
 
 -- a desk fits: it has the decided list, the book's proposals and all hosts' open requests, and each node fits the list and its host's requests
 pub record Fits (limit : ℕ) (book : Book) (list : List Entry) (hosts : List Node) (names : List (List (List ℕ))) (d : Desk) : Type 0 where
@@ -69,7 +70,7 @@ begin_fits limit hosts l = record {
   asked = all_replicate (λ l. AllByRecursion (IsAmong []) l) hosts [] tt;
   used = tt;
   open_ones = sym (none_open (replicate hosts []) limit hosts);
-  nodes = λ u m. rw (get_or-replicate hosts u (new_node limit) (new_node most_sessions) (rw (← length_nodes) m)) (new_fits u limit (asked_at (replicate hosts []) u) l);
+  nodes = λ u m. rw (get_or-replicate hosts u (new_node limit) (new_node MOST_SESSIONS) (rw (← length_nodes) m)) (new_fits u limit (asked_at (replicate hosts []) u) l);
 } where
   length_nodes : length (replicate hosts (new_node limit)) ≡ hosts
   length_nodes = length-replicate hosts (new_node limit)
@@ -128,7 +129,7 @@ booked_fits : (h limit : ℕ) (r : Request) (context : List ℕ) (book : Book) (
     → Fits limit (more_asked h r book) decided nodes (more_contexts h context contexts) (record d { asked = asked })
 booked_fits h limit r context book decided nodes contexts d asked few e f older new used =
     let room : h < length book = rw (hosts_same limit book decided nodes contexts d f) few in
-    let owned : AllByRecursion (IsOwned book) nodes = all_from (IsOwned book) nodes (new_node most_sessions) (λ u l. record { host = u; wants = (f.nodes u l).wants }) in
+    let owned : AllByRecursion (IsOwned book) nodes = all_from (IsOwned book) nodes (new_node MOST_SESSIONS) (λ u l. record { host = u; wants = (f.nodes u l).wants }) in
     let mine : AllByRecursion (IsAmong asked) (asked_at book h) = all_or (λ l. AllByRecursion (IsAmong asked) l) book h [] tt older in
     record {
       decided = f.decided ∙ sym (placed_kept h r context book contexts decided room e f.contexts f.named);
@@ -186,5 +187,5 @@ set_fits h limit n book decided nodes contexts d room k f = record {
   length_same = length-set nodes h n
 
   by_host : (u : ℕ) → u < length nodes → (u ≡ h) ⊎ (u ≡ h → ⊥) → NodeFits u limit (asked_at book u) decided (at_host (slice_set nodes h n) u)
-  by_host u l (inl e) = rw (e, get_or-set_same nodes h n (new_node most_sessions) room) k
-  by_host u l (inr m) = rw (get_or-set_other nodes h u n (new_node most_sessions) m) (f.nodes u l)
+  by_host u l (inl e) = rw (e, get_or-set_same nodes h n (new_node MOST_SESSIONS) room) k
+  by_host u l (inr m) = rw (get_or-set_other nodes h u n (new_node MOST_SESSIONS) m) (f.nodes u l)

@@ -14,7 +14,8 @@ use Rattle.object_model.specs.Desk.{Request, Desk, Grows, Moves, AskMove, EndMov
 use Rattle.raft_model.specs.Group.{key_order}
 use Rattle.run_model.specs.declared.told.Want.{Want}
 use Rattle.run_model.specs.declared.told.Waiting.{Waiting}
-use Rattle.run_model.specs.World.{Node, new_node, most_sessions, contexts_at}
+use Rattle.run_model.specs.World.{Node, new_node, contexts_at}
+use Rattle.host_ids.specs.declared.proposal.TheConstants.{MOST_SESSIONS}
 use Rattle.run_law.specs.Lawful.{placed}
 use Rattle.run_law.proofs.Basics.Lists.{all_append, all_left, all_right, all_map}
 use Rattle.run_law.proofs.Basics.Tables.{With, insert_new}
@@ -164,7 +165,7 @@ module _ (h limit : ℕ) (book : Book) (decided : List Entry) (nodes : List Node
       let whole : before ++ (requests_in more new ++ beyond) ≡ (before ++ front) ++ r ∷ (back ++ beyond) =
       ap (λ (l : List Request). before ++ (l ++ beyond)) split ∙ rw (append_assoc front (r ∷ back) beyond, append_assoc before front (r ∷ (back ++ beyond))) refl in
       let rest : d.open_ones ≡ (before ++ front) ++ (back ++ beyond) =
-      g.open_ones ∙ opens_around more h nodes (new_node most_sessions) within ∙ ap (λ (l : List Request). before ++ (l ++ beyond)) older ∙ rw
+      g.open_ones ∙ opens_around more h nodes (new_node MOST_SESSIONS) within ∙ ap (λ (l : List Request). before ++ (l ++ beyond)) older ∙ rw
       (append_assoc front back beyond, append_assoc before front (back ++ beyond)) refl in
       let becomes : NodeFits h limit (asked_at more h) decided node = record { wants = wants; waiting = k; applied = was.applied; limit_is = was.limit_is; judges = was.judges } in
       let d2 : Desk = record d1 { open_ones = before ++ (requests_in more new ++ beyond) } in

@@ -8,7 +8,7 @@ use Rattle.host_ids.specs.declared.entry.Entry.{Entry}
 use Rattle.host_ids.specs.declared.proposal.Proposal.{Proposal}
 use Rattle.wire_codec.specs.declared.envelope.Envelope.{Envelope}
 use Rattle.wire_codec.specs.declared.envelope.Body.{Body}
-use Rattle.wire_codec.specs.declared.envelope.Body.TheVariants as kinds
+use Rattle.wire_codec.specs.declared.envelope.Body.TheVariants as bodies
 use Rattle.raft_model.specs.declared.event.LaneEvent.{LaneEvent}
 use Rattle.raft_model.specs.declared.event.LaneEvent.TheVariants as events
 use Rattle.raft_model.specs.declared.state.State.{State as Replica}
@@ -93,17 +93,17 @@ module _ (P Q : Property) (f : (key : Key) (p : Proposal) → P key p → Q key 
 
   -- so do the entries and the proposal of a body
   body_more : (t : ℕ) (b : Body) → OfBody P t b → OfBody Q t b
-  body_more t (kinds.Vote l lt) q = q
-  body_more t (kinds.VoteReply granted) q = q
-  body_more t (kinds.Append prev pt c es) q = entries_more es q
-  body_more t (kinds.AppendReply ok i) q = q
-  body_more t (kinds.Beat c round) q = q
-  body_more t (kinds.BeatReply round) q = q
-  body_more t (kinds.SnapChunk index last_term number count size bytes) q = q
-  body_more t (kinds.SnapReply i want whole) q = q
-  body_more t (kinds.Propose key p) q = f key p q
-  body_more t (kinds.ReadAsk key) q = q
-  body_more t (kinds.ReadAnswer key i) q = q
+  body_more t (bodies.Vote l lt) q = q
+  body_more t (bodies.VoteReply granted) q = q
+  body_more t (bodies.Append prev pt c es) q = entries_more es q
+  body_more t (bodies.AppendReply ok i) q = q
+  body_more t (bodies.Beat c round) q = q
+  body_more t (bodies.BeatReply round) q = q
+  body_more t (bodies.SnapChunk index last_term number count size bytes) q = q
+  body_more t (bodies.SnapReply i want whole) q = q
+  body_more t (bodies.Propose key p) q = f key p q
+  body_more t (bodies.ReadAsk key) q = q
+  body_more t (bodies.ReadAnswer key i) q = q
 
   -- so do those of envelopes
   mail_more : (ms : List Envelope) → All (OfMail P) ms → All (OfMail Q) ms

@@ -10,10 +10,10 @@ use Rattle.raft_model.specs.declared.durable.Durable.{Durable}
 use Rattle.raft_model.specs.declared.state.State.{State as Replica}
 use Rattle.raft_model.specs.declared.state.Pending.{Pending}
 use Rattle.raft_model.specs.declared.event.LaneEvent.{LaneEvent}
-use Rattle.raft_model.specs.declared.event.LaneEvent.TheVariants as inputs
+use Rattle.raft_model.specs.declared.event.LaneEvent.TheVariants as events
 use Rattle.raft_model.specs.declared.event.LaneFault.TheVariants as faults
 use Rattle.raft_model.specs.declared.input.Input.{Input}
-use Rattle.raft_model.specs.declared.input.Input.TheVariants as kinds
+use Rattle.raft_model.specs.declared.input.Input.TheVariants as inputs
 use Rattle.raft_model.specs.declared.note.Note.TheVariants as notes
 use Rattle.raft_model.specs.Restarting.{restarted}
 use Rattle.raft_model.specs.Step.{step, ready, after_ready, saved}
@@ -72,7 +72,7 @@ saved_last g h id (Some p) = cond_both (p.batch.id == id) (Group.saves_batch g h
 -- it lasts where an envelope arrives, or isn't there
 delivers_last : (g : Group) (o : Option Envelope) → Lasts g (Group.delivers g o)
 delivers_last g None = same_longer g.decided
-delivers_last g (Some e) = up_last g e.to (Group.inputs_at g e.to (kinds.Envelope e)) (inputs_last g e.to (kinds.Envelope e))
+delivers_last g (Some e) = up_last g e.to (Group.inputs_at g e.to (inputs.Envelope e)) (inputs_last g e.to (inputs.Envelope e))
 
 -- noting the first asking of a read leaves the decided list
 noted_same : (g : Group) (key : Key) → (Group.noted_ask g key).decided ≡ g.decided
@@ -80,7 +80,7 @@ noted_same g key = cond_both (Group.is_asked g key) g _ (λ (k : Group). k.decid
 
 -- it lasts where a log is cut up to an index, or that is refused
 compacts_last : (g : Group) (h i : ℕ) → Lasts g (Group.compacts g h i)
-compacts_last g h i = cond_both _ (Group.inputs_at g h (kinds.Compact i)) _ (Lasts g) (λ _. inputs_last g h (kinds.Compact i)) (λ _. same_longer g.decided)
+compacts_last g h i = cond_both _ (Group.inputs_at g h (inputs.Compact i)) _ (Lasts g) (λ _. inputs_last g h (inputs.Compact i)) (λ _. same_longer g.decided)
 
 -- it lasts where a host starts, or that is refused
 restarts_last : (g : Group) (h : ℕ) (d : Durable) → Lasts g (Group.restarts g h d)
@@ -91,17 +91,17 @@ restarts_last g h d =
 -- with every event the decided list goes on, or stays
 pub act_lasts : (e : LaneEvent) (g : Group) → Longer g.decided (act e g).group.decided
 unfolding act
-act_lasts (inputs.Timeout h) g = up_last g h (Group.inputs_at g h kinds.Timeout) (inputs_last g h kinds.Timeout)
-act_lasts (inputs.Beat h) g = up_last g h (Group.inputs_at g h kinds.Beat) (inputs_last g h kinds.Beat)
-act_lasts (inputs.Deliver k) g = delivers_last g (Group.envelope_at g.wire k)
-act_lasts (inputs.Ready h) g = up_last g h (Group.readies g h) (ready_last g h (ready (replica_at g h)))
-act_lasts (inputs.Saved h id) g = up_last g h (Group.saves_id g h id) (saved_last g h id (replica_at g h).pending)
-act_lasts (inputs.Propose h key p) g = up_last g h (Group.inputs_at g h (kinds.Propose key p)) (inputs_last g h (kinds.Propose key p))
-act_lasts (inputs.Ask h key) g =
+act_lasts (events.Timeout h) g = up_last g h (Group.inputs_at g h inputs.Timeout) (inputs_last g h inputs.Timeout)
+act_lasts (events.Beat h) g = up_last g h (Group.inputs_at g h inputs.Beat) (inputs_last g h inputs.Beat)
+act_lasts (events.Deliver k) g = delivers_last g (Group.envelope_at g.wire k)
+act_lasts (events.Ready h) g = up_last g h (Group.readies g h) (ready_last g h (ready (replica_at g h)))
+act_lasts (events.Saved h id) g = up_last g h (Group.saves_id g h id) (saved_last g h id (replica_at g h).pending)
+act_lasts (events.Propose h key p) g = up_last g h (Group.inputs_at g h (inputs.Propose key p)) (inputs_last g h (inputs.Propose key p))
+act_lasts (events.Ask h key) g =
     let k = Group.noted_ask g key in
-    up_last g h (Group.inputs_at k h (kinds.Ask key)) (subst (λ (d : List Entry). Longer d (Group.inputs_at k h (kinds.Ask key)).group.decided) (noted_same g key) (inputs_last k h (kinds.Ask key)))
-act_lasts (inputs.Chunk h to c) g = up_last g h (Group.inputs_at g h (kinds.Chunk to c)) (inputs_last g h (kinds.Chunk to c))
-act_lasts (inputs.Compact h i) g = up_last g h (Group.compacts g h i) (compacts_last g h i)
-act_lasts (inputs.Installed h i t) g = up_last g h (Group.inputs_at g h (kinds.Installed i t)) (inputs_last g h (kinds.Installed i t))
-act_lasts (inputs.Down h) g = up_last g h _ (same_longer g.decided)
-act_lasts (inputs.Restart h d) g = restarts_last g h d
+    up_last g h (Group.inputs_at k h (inputs.Ask key)) (subst (λ (d : List Entry). Longer d (Group.inputs_at k h (inputs.Ask key)).group.decided) (noted_same g key) (inputs_last k h (inputs.Ask key)))
+act_lasts (events.Chunk h to c) g = up_last g h (Group.inputs_at g h (inputs.Chunk to c)) (inputs_last g h (inputs.Chunk to c))
+act_lasts (events.Compact h i) g = up_last g h (Group.compacts g h i) (compacts_last g h i)
+act_lasts (events.Installed h i t) g = up_last g h (Group.inputs_at g h (inputs.Installed i t)) (inputs_last g h (inputs.Installed i t))
+act_lasts (events.Down h) g = up_last g h _ (same_longer g.decided)
+act_lasts (events.Restart h d) g = restarts_last g h d

@@ -8,7 +8,7 @@ use Rattle.host_ids.specs.declared.proposal.Proposal.{Proposal}
 use Rattle.host_ids.specs.declared.proposal.Proposal.TheVariants as proposals
 use Rattle.wire_codec.specs.declared.envelope.Envelope.{Envelope}
 use Rattle.wire_codec.specs.declared.envelope.Body.{Body}
-use Rattle.wire_codec.specs.declared.envelope.Body.TheVariants as kinds
+use Rattle.wire_codec.specs.declared.envelope.Body.TheVariants as bodies
 use Rattle.raft_model.specs.declared.chunk.Chunk.{Chunk}
 use Rattle.raft_model.specs.declared.event.LaneEvent.{LaneEvent}
 use Rattle.raft_model.specs.declared.event.LaneEvent.TheVariants as events
@@ -61,7 +61,7 @@ each me f next (v ∷ vs) r k = each me f next vs (if v == me then r else f v r)
 appends_to : (s : Seat) (v : ℕ) (r : Replica) → IsUncut r → IsUncut (append_to s v r)
 appends_to s v r k =
     pick_one (nat_lt r.log.front (at r.next v) && nat_le (at r.next v) (last r.log + 1))
-    (sent s v (kinds.Append (at r.next v - 1) (term_at r.log (at r.next v - 1)) r.commit (slice r.log (at r.next v) 64)) r) r k k
+    (sent s v (bodies.Append (at r.next v - 1) (term_at r.log (at r.next v - 1)) r.commit (slice r.log (at r.next v) 64)) r) r k k
 
 -- more entries for a voter that lacks some cut no log
 more : (s : Seat) (v : ℕ) (r : Replica) → IsUncut r → IsUncut (more_to s v r)
@@ -85,7 +85,7 @@ takes_from old refusal r w x k y = pick old refusal (if is_leader r then quiet r
 -- the row of Timeout cuts no log
 timeout : (s : Seat) (r : Replica) → IsUncut r → IsUncut (on_timeout s r).replica
 timeout s r k = pick (is_full r || is_leader r) (notes_idle r) (quiet (asked_votes s (campaigned s r))) k
-    (each s.me (λ v q. sent s v (kinds.Vote (last q.log) (last_term q.log)) q) (λ v q a. a) s.voters (campaigned s r) k)
+    (each s.me (λ v q. sent s v (bodies.Vote (last q.log) (last_term q.log)) q) (λ v q a. a) s.voters (campaigned s r) k)
 
 -- a grant that is counted cuts no log, also where the candidate leads by it
 granted_to : (s : Seat) (from : ℕ) (r : Replica) → IsUncut r → IsUncut (granted_by s from r).replica
@@ -109,19 +109,19 @@ is_asked_of r dropped own handed x y z =
 
 -- the row of the local proposal cuts no log
 local_proposal : (s : Seat) (key : Key) (p : Proposal) (r : Replica) → IsUncut r → IsUncut (on_local_proposal s key p r).replica
-local_proposal s key p r k = is_asked_of r (notes_dropped key r) (quiet (appended_to_all s key p r)) (quiet (sent_in 0 s r.leader (kinds.Propose key p) r)) k (to_all s key p r k) k
+local_proposal s key p r k = is_asked_of r (notes_dropped key r) (quiet (appended_to_all s key p r)) (quiet (sent_in 0 s r.leader (bodies.Propose key p) r)) k (to_all s key p r k) k
 
 -- the row of Beat cuts no log
 beat : (s : Seat) (from t c round : ℕ) (r : Replica) → IsUncut r → IsUncut (on_beat s from t c round r).replica
 beat s from t c round r k =
-    takes_from (nat_lt t r.term) (quiet (sent s from (kinds.BeatReply 0) r)) r
-    (quiet (sent s from (kinds.BeatReply round) (record (follows from r) { commit = max r.commit (min c (last r.log)) }))) k k k
+    takes_from (nat_lt t r.term) (quiet (sent s from (bodies.BeatReply 0) r)) r
+    (quiet (sent s from (bodies.BeatReply round) (record (follows from r) { commit = max r.commit (min c (last r.log)) }))) k k k
 
 -- a read that is confirmed cuts no log
 confirm_one : (s : Seat) (read : OpenRead) (w : Row) → IsUncut w.replica → IsUncut (confirmed s read w).replica
 confirm_one s read w k =
     pick (read.origin == s.me) (record w { notes = w.notes ++ notes.Confirmed s.me read.key read.index ∷ [] })
-    (record w { replica = sent_in 0 s read.origin (kinds.ReadAnswer read.key read.index) w.replica }) k k
+    (record w { replica = sent_in 0 s read.origin (bodies.ReadAnswer read.key read.index) w.replica }) k k
 
 -- open reads of which the answered ones are confirmed cut no log
 confirm_all : (s : Seat) (reads : List OpenRead) (w : Row) → IsUncut w.replica → IsUncut (confirm s reads w).replica
@@ -138,7 +138,7 @@ beat_reply s from t round r k =
 
 -- beats that are sent to the others cut no log
 beats_all : (s : Seat) (r : Replica) → IsUncut r → IsUncut (beats s r)
-beats_all s r k = each s.me (λ v q. sent s v (kinds.Beat (min (at q.matched v) q.commit) q.reads.round) q) (λ v q a. a) s.voters r k
+beats_all s r k = each s.me (λ v q. sent s v (bodies.Beat (min (at q.matched v) q.commit) q.reads.round) q) (λ v q a. a) s.voters r k
 
 -- the row of the script's beat cuts no log
 script_beat : (s : Seat) (r : Replica) → IsUncut r → IsUncut (on_script_beat s r).replica
@@ -156,7 +156,7 @@ read_ask s from key r k = pick (may_read r && not (is_full r)) (open_read s key 
 ask : (s : Seat) (key : Key) (r : Replica) → IsUncut r → IsUncut (on_ask s key r).replica
 ask s key r k =
     let dropped = notes_dropped key r in
-    is_asked_of r dropped (if may_read r then open_read s key s.me r else dropped) (quiet (sent_in 0 s r.leader (kinds.ReadAsk key) r)) k
+    is_asked_of r dropped (if may_read r then open_read s key s.me r else dropped) (quiet (sent_in 0 s r.leader (bodies.ReadAsk key) r)) k
     (pick (may_read r) (open_read s key s.me r) dropped (opens s key s.me r k) k) k
 
 -- entries are laid into a log
@@ -175,7 +175,7 @@ stores s from c n (Some i) r k = k
 append : (s : Seat) (from t prev pt c : ℕ) (es : List Entry) (r : Replica) → IsUncut r → IsUncut (on_append s from t prev pt c es r).replica
 append s from t prev pt c es r k =
     let q = follows from r in
-    takes_from (nat_lt t r.term) (quiet (sent s from (kinds.AppendReply false 0) r)) r (takes_append s from prev pt c es q) k k
+    takes_from (nat_lt t r.term) (quiet (sent s from (bodies.AppendReply false 0) r)) r (takes_append s from prev pt c es q) k k
     (cond_both (lacks q.log prev pt) (refused q.log prev) (stored q.log q.commit prev es) (λ (w : AppendTook). IsUncut (answers_append s from c w.outcome (record q { log = w.log })).replica)
     (λ _. k)
     (λ _. let w = laid q.log q.commit prev es in stores s from c (max q.log.front (prev + length es)) w.changed_from (record q { log = w.log }) (laid_in q.log q.commit prev es k)))
@@ -199,9 +199,9 @@ chunk : (s : Seat) (from : ℕ) (c : Chunk) (r : Replica) → IsUncut r → IsUn
 chunk s from c r k =
     let took = taken r.assembly c in
     let q = follows from r in
-    let there = quiet (sent s from (kinds.SnapReply c.index (c.count + 1) true) q) in
+    let there = quiet (sent s from (bodies.SnapReply c.index (c.count + 1) true) q) in
     let goes_on = quiet (after_take s from c took q) in
-    takes_from (nat_lt c.term r.term) (quiet (sent s from (kinds.SnapReply c.index 0 false) r)) r (if nat_le c.index r.commit then there else goes_on) k k
+    takes_from (nat_lt c.term r.term) (quiet (sent s from (bodies.SnapReply c.index 0 false) r)) r (if nat_le c.index r.commit then there else goes_on) k k
     (pick (nat_le c.index r.commit) there goes_on k (takes_in s from c took.hand took.whole took.want q k))
 
 -- the row of SnapReply cuts no log
@@ -210,13 +210,13 @@ snap_reply s from t i whole r k = let q = with_progress (reached from i (progres
 
 -- no envelope of any kind cuts a log
 body_on : (s : Seat) (from t : ℕ) (body : Body) (r : Replica) → IsUncut r → IsUncut (on_body s from t body r).replica
-body_on s from t (kinds.Vote l lt) r k = entered t r k
-body_on s from t (kinds.VoteReply granted) r k = vote_reply s from t granted (in_term t r) (entered t r k)
-body_on s from t (kinds.Append prev pt c es) r k = append s from t prev pt c es (in_term t r) (entered t r k)
-body_on s from t (kinds.AppendReply ok i) r k = append_reply s from t ok i (in_term t r) (entered t r k)
-body_on s from t (kinds.Beat c round) r k = beat s from t c round (in_term t r) (entered t r k)
-body_on s from t (kinds.BeatReply round) r k = beat_reply s from t round (in_term t r) (entered t r k)
-body_on s from t (kinds.SnapChunk index last_term number count size bytes) r k = chunk s from (record {
+body_on s from t (bodies.Vote l lt) r k = entered t r k
+body_on s from t (bodies.VoteReply granted) r k = vote_reply s from t granted (in_term t r) (entered t r k)
+body_on s from t (bodies.Append prev pt c es) r k = append s from t prev pt c es (in_term t r) (entered t r k)
+body_on s from t (bodies.AppendReply ok i) r k = append_reply s from t ok i (in_term t r) (entered t r k)
+body_on s from t (bodies.Beat c round) r k = beat s from t c round (in_term t r) (entered t r k)
+body_on s from t (bodies.BeatReply round) r k = beat_reply s from t round (in_term t r) (entered t r k)
+body_on s from t (bodies.SnapChunk index last_term number count size bytes) r k = chunk s from (record {
   term = t;
   index = index;
   last_term = last_term;
@@ -225,10 +225,10 @@ body_on s from t (kinds.SnapChunk index last_term number count size bytes) r k =
   size = size;
   bytes = bytes;
 }) (in_term t r) (entered t r k)
-body_on s from t (kinds.SnapReply i want whole) r k = snap_reply s from t i whole (in_term t r) (entered t r k)
-body_on s from t (kinds.Propose key p) r k = propose s key p r k
-body_on s from t (kinds.ReadAsk key) r k = read_ask s from key r k
-body_on s from t (kinds.ReadAnswer key i) r k = k
+body_on s from t (bodies.SnapReply i want whole) r k = snap_reply s from t i whole (in_term t r) (entered t r k)
+body_on s from t (bodies.Propose key p) r k = propose s key p r k
+body_on s from t (bodies.ReadAsk key) r k = read_ask s from key r k
+body_on s from t (bodies.ReadAnswer key i) r k = k
 
 -- what is held goes on the wire, or stays
 goes_out : (before : List Envelope) (w : Row) → IsUncut w.replica → IsUncut (released before w).replica

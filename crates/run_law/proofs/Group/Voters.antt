@@ -8,9 +8,9 @@ use Rattle.wire_codec.specs.declared.envelope.Envelope.{Envelope}
 use Rattle.raft_model.specs.declared.durable.Durable.{Durable}
 use Rattle.raft_model.specs.declared.state.Pending.{Pending}
 use Rattle.raft_model.specs.declared.event.LaneEvent.{LaneEvent}
-use Rattle.raft_model.specs.declared.event.LaneEvent.TheVariants as inputs
+use Rattle.raft_model.specs.declared.event.LaneEvent.TheVariants as events
 use Rattle.raft_model.specs.declared.event.LaneFault.TheVariants as faults
-use Rattle.raft_model.specs.declared.input.Input.TheVariants as kinds
+use Rattle.raft_model.specs.declared.input.Input.TheVariants as inputs
 use Rattle.raft_model.specs.declared.note.Note.TheVariants as notes
 use Rattle.raft_model.specs.Step.{ready, after_ready}
 use Rattle.raft_model.specs.Group
@@ -47,7 +47,7 @@ saved_stay g h id (Some p) = cond_both (p.batch.id == id) (Group.saves_batch g h
 -- they stay where an envelope arrives, or isn't there
 delivers_stay : (g : Group) (o : Option Envelope) → Stay g (Group.delivers g o)
 delivers_stay g None = refl
-delivers_stay g (Some e) = up_stay g e.to (Group.inputs_at g e.to (kinds.Envelope e)) refl
+delivers_stay g (Some e) = up_stay g e.to (Group.inputs_at g e.to (inputs.Envelope e)) refl
 
 -- noting the first asking of a read leaves the voters
 noted_stay : (g : Group) (key : Key) → (Group.noted_ask g key).voters ≡ g.voters
@@ -55,7 +55,7 @@ noted_stay g key = cond_both (Group.is_asked g key) g _ (λ (k : Group). k.voter
 
 -- they stay where a log is cut up to an index, or that is refused
 compacts_stay : (g : Group) (h i : ℕ) → Stay g (Group.compacts g h i)
-compacts_stay g h i = cond_both _ (Group.inputs_at g h (kinds.Compact i)) _ (Stay g) (λ _. refl) (λ _. refl)
+compacts_stay g h i = cond_both _ (Group.inputs_at g h (inputs.Compact i)) _ (Stay g) (λ _. refl) (λ _. refl)
 
 -- they stay where a host starts, or that is refused
 restarts_stay : (g : Group) (h : ℕ) (d : Durable) → Stay g (Group.restarts g h d)
@@ -66,15 +66,15 @@ restarts_stay g h d =
 -- every event leaves the voters
 pub act_stay : (e : LaneEvent) (g : Group) → (act e g).group.voters ≡ g.voters
 unfolding act
-act_stay (inputs.Timeout h) g = up_stay g h (Group.inputs_at g h kinds.Timeout) refl
-act_stay (inputs.Beat h) g = up_stay g h (Group.inputs_at g h kinds.Beat) refl
-act_stay (inputs.Deliver k) g = delivers_stay g (Group.envelope_at g.wire k)
-act_stay (inputs.Ready h) g = up_stay g h (Group.readies g h) (ready_stay g h (ready (replica_at g h)))
-act_stay (inputs.Saved h id) g = up_stay g h (Group.saves_id g h id) (saved_stay g h id (replica_at g h).pending)
-act_stay (inputs.Propose h key p) g = up_stay g h (Group.inputs_at g h (kinds.Propose key p)) refl
-act_stay (inputs.Ask h key) g = up_stay g h (Group.inputs_at (Group.noted_ask g key) h (kinds.Ask key)) (noted_stay g key)
-act_stay (inputs.Chunk h to c) g = up_stay g h (Group.inputs_at g h (kinds.Chunk to c)) refl
-act_stay (inputs.Compact h i) g = up_stay g h (Group.compacts g h i) (compacts_stay g h i)
-act_stay (inputs.Installed h i t) g = up_stay g h (Group.inputs_at g h (kinds.Installed i t)) refl
-act_stay (inputs.Down h) g = up_stay g h _ refl
-act_stay (inputs.Restart h d) g = restarts_stay g h d
+act_stay (events.Timeout h) g = up_stay g h (Group.inputs_at g h inputs.Timeout) refl
+act_stay (events.Beat h) g = up_stay g h (Group.inputs_at g h inputs.Beat) refl
+act_stay (events.Deliver k) g = delivers_stay g (Group.envelope_at g.wire k)
+act_stay (events.Ready h) g = up_stay g h (Group.readies g h) (ready_stay g h (ready (replica_at g h)))
+act_stay (events.Saved h id) g = up_stay g h (Group.saves_id g h id) (saved_stay g h id (replica_at g h).pending)
+act_stay (events.Propose h key p) g = up_stay g h (Group.inputs_at g h (inputs.Propose key p)) refl
+act_stay (events.Ask h key) g = up_stay g h (Group.inputs_at (Group.noted_ask g key) h (inputs.Ask key)) (noted_stay g key)
+act_stay (events.Chunk h to c) g = up_stay g h (Group.inputs_at g h (inputs.Chunk to c)) refl
+act_stay (events.Compact h i) g = up_stay g h (Group.compacts g h i) (compacts_stay g h i)
+act_stay (events.Installed h i t) g = up_stay g h (Group.inputs_at g h (inputs.Installed i t)) refl
+act_stay (events.Down h) g = up_stay g h _ refl
+act_stay (events.Restart h d) g = restarts_stay g h d

@@ -8,7 +8,7 @@ use Rattle.wire_codec.specs.declared.envelope.Envelope.{Envelope}
 use Rattle.raft_model.specs.declared.event.LaneEvent.{LaneEvent}
 use Rattle.raft_model.specs.declared.event.LaneEvent.TheVariants as events
 use Rattle.raft_model.specs.declared.event.LaneFault.TheVariants as faults
-use Rattle.raft_model.specs.declared.input.Input.TheVariants as kinds
+use Rattle.raft_model.specs.declared.input.Input.TheVariants as inputs
 use Rattle.raft_model.specs.declared.note.Note.{Note}
 use Rattle.raft_model.specs.declared.state.State.{State as Replica}
 use Rattle.raft_model.specs.Replica.{fresh}
@@ -125,4 +125,4 @@ single_heard h key g (inr l) = by_host (cases_eq h l.0) where
       let commit = (replica_at g u).commit in
       let least : length g.decided ≤ commit = rw (l.1.decided, length-take) (omega arith) in
       rw e (heard_by u key (length g.decided) commit (act (events.Ask u key) g).notes least (ask_onto u key g l.1).notes)
-  by_host (inr n) = rw (other_up l.0 h g (Group.inputs_at (Group.noted_ask g key) h (kinds.Ask key)) l.1.voters n) (nothing_heard (length g.decided))
+  by_host (inr n) = rw (other_up l.0 h g (Group.inputs_at (Group.noted_ask g key) h (inputs.Ask key)) l.1.voters n) (nothing_heard (length g.decided))

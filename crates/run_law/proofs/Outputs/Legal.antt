@@ -9,11 +9,11 @@ use Rattle.object_model.specs.Desk.{Desk, empty_desk, Moves, shown, shown_from, 
 use Rattle.raft_model.specs.Group.{Group}
 use Rattle.raft_entries.specs.Numbers.{Numbered}
 use Rattle.host_ids.specs.declared.entry.Entry.{Entry}
-use Rattle.run_model.specs.declared.line.Line.TheVariants as lines
+use Rattle.script_text.specs.declared.line.Line.TheVariants as lines
 use Rattle.run_model.specs.declared.told.Stop.{Stop}
 use Rattle.run_model.specs.declared.told.Stop.TheVariants.{Ended}
 use Rattle.run_model.specs.Run
-use Rattle.run_model.specs.declared.told.Told.{Told}
+use Rattle.script_text.specs.declared.told.Told.{Told}
 use Rattle.run_model.specs.World.{World}
 use Rattle.run_model.specs.Run.{Outcome, outcome_of, ending, all_told, entry_told}
 use Rattle.run_model.specs.Marks.{marks_of}

@@ -13,13 +13,13 @@ use Rattle.object_model.specs.declared.mark.Mark.TheVariants as marks
 use Rattle.object_model.specs.Object.{answer}
 use Rattle.object_model.specs.Desk.{Request, Desk}
 use Rattle.raft_model.specs.declared.event.LaneEvent.{LaneEvent}
-use Rattle.raft_model.specs.declared.event.LaneEvent.TheVariants as inputs
+use Rattle.raft_model.specs.declared.event.LaneEvent.TheVariants as events
 use Rattle.raft_model.specs.Replica.{no_key}
 use Rattle.raft_model.specs.Group.{Group, is_member}
-use Rattle.run_model.specs.declared.told.Told.{Told}
+use Rattle.script_text.specs.declared.told.Told.{Told}
 use Rattle.run_model.specs.declared.told.Want.TheVariants as wants
 use Rattle.run_model.specs.declared.told.Waiting.{Waiting}
-use Rattle.run_model.specs.declared.line.Line.TheVariants as lines
+use Rattle.script_text.specs.declared.line.Line.TheVariants as lines
 use Rattle.run_model.specs.World.{World, Node, node_at, waiting_order}
 use Rattle.run_model.specs.Run
 use Rattle.run_model.specs.Run.{is_used, next_key, proposes, read_asked}
@@ -122,7 +122,7 @@ module _ (Kept : Group → Type 0) (Carries : Given → Group → Type 0) (law :
       let few = few_member w.group.voters h a.voters member in
       let what = whats.Proposes p in
       let key = next_key w h in
-      let e = inputs.Propose h key p in
+      let e = events.Propose h key p in
       let f = a.fits in
       let r = room limit h w d context what a few in
       let k = within limit h w d context what a few in
@@ -163,7 +163,7 @@ module _ (Kept : Group → Type 0) (Carries : Given → Group → Type 0) (law :
   waiting_goes : (limit h : ℕ) (w : World) (d : Desk) (context query : List ℕ) (o : Option ℕ) → (a : Runs Kept Carries limit (part_of w) d) → (few : h < 10) → is_used w context ≡ false
       → ((index : ℕ) → o ≡ Some index → length d.decided ≤ index)
       → Goes Kept Carries limit d (record {
-        world = Run.opened_read h (next_key w h) query o (after limit h w d context (whats.Queries query) a few (inputs.Ask h (next_key w h)));
+        world = Run.opened_read h (next_key w h) query o (after limit h w d context (whats.Queries query) a few (events.Ask h (next_key w h)));
         told = Run.asked context (lines.AskRead (next_key w h) 1 query) [];
       })
   waiting_goes limit h w d context query o a few unused late =
@@ -178,7 +178,7 @@ module _ (Kept : Group → Type 0) (Carries : Given → Group → Type 0) (law :
       let own = next_within h limit a.book w.group.decided w.nodes w.contexts d f r context what in
       let wait : AllByRecursion (Waits h mine) (Run.awaits o (next_key w h) old) = by_index mine rest own (ap (λ (r : Request). r.what) is) (λ i l. rw is l) o late in
       let opened = opens h limit a.book w.group.decided w.nodes w.contexts d f r context what (wants.Read query) (Run.awaits o (next_key w h) old) k unused refl wait in
-      opened_goes limit h w d context what a few [] tt (inputs.Ask h (next_key w h)) _ _ tt tt opened refl
+      opened_goes limit h w d context what a few [] tt (events.Ask h (next_key w h)) _ _ tt tt opened refl
     where
       by_index : (mine : List Request) → AllByRecursion (Waits h mine) (node_at w h).requests.waiting → Within h mine (next_key w h) → (request_at mine (next_key w h)).what ≡ whats.Queries query
           → ((index : ℕ) → length d.decided ≤ index → (request_at mine (next_key w h)).since ≤ index)
@@ -202,7 +202,7 @@ module _ (Kept : Group → Type 0) (Carries : Given → Group → Type 0) (law :
       let few = few_member w.group.voters h a.voters member in
       let what = whats.Queries query in
       let key = next_key w h in
-      let e = inputs.Ask h key in
+      let e = events.Ask h key in
       let o = Run.confirmed_index (Run.noted e w) in
       let heard : (index : ℕ) → o ≡ Some index → length d.decided ≤ index = λ index q. rw (a.fits.decided, length-map) (law.heard h key w.group a.kept one index q) in
       cond_both (Run.is_dropped (Run.noted e w)) _ _ (Goes Kept Carries limit d)

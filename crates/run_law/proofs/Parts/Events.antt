@@ -11,16 +11,16 @@ use Rattle.host_ids.specs.declared.entry.Entry.{Entry}
 use Rattle.host_ids.specs.declared.proposal.Proposal.{Proposal}
 use Rattle.object_model.specs.Desk.{Desk, Grows, Moves, MovesJoin}
 use Rattle.raft_model.specs.declared.event.LaneEvent.{LaneEvent}
-use Rattle.raft_model.specs.declared.event.LaneEvent.TheVariants as inputs
+use Rattle.raft_model.specs.declared.event.LaneEvent.TheVariants as events
 use Rattle.raft_model.specs.declared.state.State.{State as Replica}
 use Rattle.raft_model.specs.Replica.{ripe}
 use Rattle.raft_model.specs.Group.{Group, act, replica_at, is_member}
-use Rattle.run_model.specs.declared.script.HostEvent.{HostEvent}
-use Rattle.run_model.specs.declared.script.HostEvent.TheVariants as events
-use Rattle.run_model.specs.declared.line.Line.TheVariants as lines
+use Rattle.script_text.specs.declared.script.HostEvent.{HostEvent}
+use Rattle.script_text.specs.declared.script.HostEvent.TheVariants as host_events
+use Rattle.script_text.specs.declared.line.Line.TheVariants as lines
 use Rattle.run_model.specs.World.{World, Node, node_at}
 use Rattle.run_model.specs.Run
-use Rattle.run_model.specs.Run.{Step, applied, next_entries, event_step}
+use Rattle.run_model.specs.Run.{RunStep, applied, next_entries, event_step}
 use Rattle.run_model.specs.Marks.{marks_of}
 use Rattle.run_law.proofs.Basics.Lists.{all_map, all_right}
 use Rattle.run_law.proofs.Cells.Judging.{Follows}
@@ -48,29 +48,29 @@ given_named book given all key p c = All-contains (λ (x : Key × Proposal). IsN
 
 module _ (Kept : Group → Type 0) (Carries : Given → Group → Type 0) where
   -- a desk goes with a step: by the step's lines it moves to one that fits the part of the world after it
-  pub record Goes (limit : ℕ) (d : Desk) (s : Step) : Type 0 where
+  pub record Goes (limit : ℕ) (d : Desk) (s : RunStep) : Type 0 where
     pub desk : Desk
     pub runs : Runs Kept Carries limit (part_of s.world) desk
     pub moves : Moves limit d (marks_of 1 s.told) desk
 
   -- a desk goes with one of two steps, if it does with each where that is chosen
-  pub by_cond : (limit : ℕ) (d : Desk) (b : Bool) (x y : Step) → (b ≡ true → Goes limit d x) → (b ≡ false → Goes limit d y) → Goes limit d (cond b x y)
+  pub by_cond : (limit : ℕ) (d : Desk) (b : Bool) (x y : RunStep) → (b ≡ true → Goes limit d x) → (b ≡ false → Goes limit d y) → Goes limit d (cond b x y)
   by_cond limit d b x y p q = cond_both b x y (Goes limit d) p q
 
   -- a line of another group, or of none
-  pub apart_goes : (limit : ℕ) (d : Desk) (w : World) (s : Step) → IsApart (part_of w) (part_of s.world) → marks_of 1 s.told ≡ [] → Runs Kept Carries limit (part_of w) d → Goes limit d s
+  pub apart_goes : (limit : ℕ) (d : Desk) (w : World) (s : RunStep) → IsApart (part_of w) (part_of s.world) → marks_of 1 s.told ≡ [] → Runs Kept Carries limit (part_of w) d → Goes limit d s
   apart_goes limit d w s apart e a = record { desk = d; runs = others_leave Kept Carries limit (part_of w) (part_of s.world) d apart a; moves = rw e (nothing_moves limit d) }
 
   -- nothing that a desk knows of
-  pub silent : (limit : ℕ) (d : Desk) (s : Step) → Runs Kept Carries limit (part_of s.world) d → marks_of 1 s.told ≡ [] → Goes limit d s
+  pub silent : (limit : ℕ) (d : Desk) (s : RunStep) → Runs Kept Carries limit (part_of s.world) d → marks_of 1 s.told ≡ [] → Goes limit d s
   silent limit d s a e = record { desk = d; runs = a; moves = rw e (nothing_moves limit d) }
 
   -- a step whose lines say nothing of requests, without its lines
-  untold : (limit : ℕ) (d : Desk) (s : Step) → marks_of 1 s.told ≡ [] → Goes limit d s → Goes limit d (Run.quiet s.world)
+  untold : (limit : ℕ) (d : Desk) (s : RunStep) → marks_of 1 s.told ≡ [] → Goes limit d s → Goes limit d (Run.quiet s.world)
   untold limit d s e g = record { desk = g.desk; runs = g.runs; moves = subst (λ ms. Moves limit d ms g.desk) e g.moves }
 
   -- a step after one that tells nothing
-  joined_goes : (join : MovesJoin) (limit : ℕ) (d : Desk) (w : World) (s : Step) → (g : Goes limit d (Run.quiet w)) → Goes limit g.desk s → Goes limit d s
+  joined_goes : (join : MovesJoin) (limit : ℕ) (d : Desk) (w : World) (s : RunStep) → (g : Goes limit d (Run.quiet w)) → Goes limit g.desk s → Goes limit d s
   joined_goes join limit d w s g k = record { desk = k.desk; runs = k.runs; moves = join limit d [] (marks_of 1 s.told) g.desk k.desk g.moves k.moves }
 
   module _ (law : GroupLaw Kept Carries) where
@@ -125,14 +125,14 @@ module _ (Kept : Group → Type 0) (Carries : Given → Group → Type 0) where
     -- a desk goes with a batch that is taken, where none is pending
     taken_goes : (limit : ℕ) (w : World) (d : Desk) (h : ℕ) → Runs Kept Carries limit (part_of w) d → Goes limit d (Run.quiet (Run.taken h w))
     taken_goes limit w d h a =
-        cond_both (is_some (Run.pending_at w h)) w (Run.moved h (inputs.Ready h) w) (λ (v : World). Goes limit d (Run.quiet v))
+        cond_both (is_some (Run.pending_at w h)) w (Run.moved h (events.Ready h) w) (λ (v : World). Goes limit d (Run.quiet v))
         (λ _. silent limit d (Run.quiet w) a refl)
-        (λ _. untold limit d (Run.core h (inputs.Ready h) w) (notes_marks 1 (act (inputs.Ready h) w.group).notes) (core_goes limit w d h (inputs.Ready h) a tt tt))
+        (λ _. untold limit d (Run.core h (events.Ready h) w) (notes_marks 1 (act (events.Ready h) w.group).notes) (core_goes limit w d h (events.Ready h) a tt tt))
 
     -- a desk goes with a batch that is handed back, if there is one
     handed_goes : (limit : ℕ) (w : World) (d : Desk) (h : ℕ) (o : Option Batch) → Runs Kept Carries limit (part_of w) d → Goes limit d (Run.handed_back h o w)
     handed_goes limit w d h None a = silent limit d (Run.tells w lines.Idle) a refl
-    handed_goes limit w d h (Some b) a = core_goes limit w d h (inputs.Saved h b.id) a tt tt
+    handed_goes limit w d h (Some b) a = core_goes limit w d h (events.Saved h b.id) a tt tt
 
     -- a desk goes with a save
     save_goes : (limit : ℕ) (w : World) (d : Desk) (h : ℕ) → MovesJoin → Runs Kept Carries limit (part_of w) d → Goes limit d (Run.save h w)
@@ -194,8 +194,8 @@ module _ (Kept : Group → Type 0) (Carries : Given → Group → Type 0) where
     pub event_goes : (laws : Follows) (limit : ℕ) (w : World) (d : Desk) (h : ℕ) (event : HostEvent) → MovesJoin → is_member w.group h ≡ true → Runs Kept Carries limit (part_of w) d
         → Goes limit d (Run.event_step h event w)
     unfolding event_step
-    event_goes laws limit w d h (events.Timeout group) join m a = core_goes limit w d h (inputs.Timeout h) a tt tt
-    event_goes laws limit w d h (events.Beat group) join m a = core_goes limit w d h (inputs.Beat h) a tt tt
-    event_goes laws limit w d h (events.Ready group) join m a = core_goes limit w d h (inputs.Ready h) a tt tt
-    event_goes laws limit w d h (events.Save group) join m a = save_goes limit w d h join a
-    event_goes laws limit w d h (events.Apply group most) join m a = apply_goes laws limit w d h most join (few_member w.group.voters h a.voters m) a
+    event_goes laws limit w d h (host_events.Timeout group) join m a = core_goes limit w d h (events.Timeout h) a tt tt
+    event_goes laws limit w d h (host_events.Beat group) join m a = core_goes limit w d h (events.Beat h) a tt tt
+    event_goes laws limit w d h (host_events.Ready group) join m a = core_goes limit w d h (events.Ready h) a tt tt
+    event_goes laws limit w d h (host_events.Save group) join m a = save_goes limit w d h join a
+    event_goes laws limit w d h (host_events.Apply group most) join m a = apply_goes laws limit w d h most join (few_member w.group.voters h a.voters m) a

@@ -4,15 +4,15 @@ use Rattle.std.specs.List.{list_any}
 use Rattle.std.proofs.lemmas.List.{length-replicate}
 use Rattle.wire_codec.specs.declared.envelope.Envelope.{Envelope}
 use Rattle.object_model.specs.Desk.{Desk, empty_desk, Moves, MovesJoin}
-use Rattle.raft_model.specs.declared.event.LaneEvent.TheVariants as inputs
+use Rattle.raft_model.specs.declared.event.LaneEvent.TheVariants as events
 use Rattle.host_ids.specs.declared.proposal.Proposal.TheVariants as proposals
 use Rattle.raft_model.specs.Replica.{no_key}
 use Rattle.raft_model.specs.Group.{Group, is_member, envelope_at}
 use Rattle.run_model.specs.declared.client.ClientSession.{ClientSession}
-use Rattle.run_model.specs.declared.told.Told.{Told}
+use Rattle.script_text.specs.declared.told.Told.{Told}
 use Rattle.run_model.specs.World.{World, start}
 use Rattle.run_model.specs.Run
-use Rattle.run_model.specs.Run.{Step, is_used, grouped}
+use Rattle.run_model.specs.Run.{RunStep, is_used, grouped}
 use Rattle.run_model.specs.Marks.{marks_of}
 use Rattle.run_law.proofs.Basics.Lists.{all_map}
 use Rattle.run_law.proofs.Cells.Judging.{Follows}
@@ -74,7 +74,7 @@ module _ (Kept : Group → Type 0) (Carries : Given → Group → Type 0) (law :
   start_reach = inl (record { voters = refl; wire = refl; decided = refl; contexts = refl }, refl)
 
   -- a step, by each of the two
-  steps : (join : MovesJoin) (w : World) (s : Step) → (Before w → Before s.world × (marks_of 1 s.told ≡ []))
+  steps : (join : MovesJoin) (w : World) (s : RunStep) → (Before w → Before s.world × (marks_of 1 s.told ≡ []))
       → ((limit : ℕ) (d : Desk) → Runs Kept Carries limit (part_of w) d → Goes Kept Carries limit d s)
       → Same w s.world → Reaches w s.told s.world
   steps join w s before goes same old (inl b) = let n = before b.0 in inl (n.0, rw (marks_of-append 1 old s.told, b.1, n.1) refl)
@@ -89,7 +89,7 @@ module _ (Kept : Group → Type 0) (Carries : Given → Group → Type 0) (law :
       })
 
   -- a step at a voter
-  member_steps : (join : MovesJoin) (w : World) (host : ℕ) (s : Step) → is_member w.group host ≡ true → ((limit : ℕ) (d : Desk) → Runs Kept Carries limit (part_of w) d → Goes Kept Carries limit d s)
+  member_steps : (join : MovesJoin) (w : World) (host : ℕ) (s : RunStep) → is_member w.group host ≡ true → ((limit : ℕ) (d : Desk) → Runs Kept Carries limit (part_of w) d → Goes Kept Carries limit d s)
       → Same w s.world → Reaches w s.told s.world
   member_steps join w host s member goes same = steps join w s (λ b. absurd (no_member w host b.voters member)) goes same
 
@@ -143,12 +143,12 @@ module _ (Kept : Group → Type 0) (Carries : Given → Group → Type 0) (law :
 
   -- an envelope arrives
   deliver_reach : (join : MovesJoin) (w : World) (e : Envelope) (number : ℕ) → envelope_at w.group.wire number ≡ Some e
-      → Reaches w (Run.core e.to (inputs.Deliver number) w).told (Run.core e.to (inputs.Deliver number) w).world
+      → Reaches w (Run.core e.to (events.Deliver number) w).told (Run.core e.to (events.Deliver number) w).world
   deliver_reach join w e number is =
-      steps join w (Run.core e.to (inputs.Deliver number) w)
+      steps join w (Run.core e.to (events.Deliver number) w)
       (λ b. absurd (no_envelope w e number b.wire is))
-      (λ limit d a. core_goes Kept Carries law limit w d e.to (inputs.Deliver number) a tt tt)
-      (act_stay (inputs.Deliver number) w.group)
+      (λ limit d a. core_goes Kept Carries law limit w d e.to (events.Deliver number) a tt tt)
+      (act_stay (events.Deliver number) w.group)
 
   -- where lines reach a world, and more lines reach another one from there, all of them reach that
   joined_reach : (u v w : World) (a b : List Told) → Reaches u a v → Reaches v b w → Reaches u (a ++ b) w

@@ -1,13 +1,13 @@
 -- A run over a script of the grammar comes to its end, or to a limit.
 use Rattle.std.proofs.Common.{◌≡◌, ℕ, ◌+◌, List, [], ◌∷◌, Bool, true, false, Option, Some, None, cond, length, refl, inl, inr}
 use Rattle.std.specs.Prelude.{◌||◌}
-use Rattle.run_model.specs.declared.limit.Limit.{Limit}
-use Rattle.run_model.specs.declared.script.ScriptLine.{ScriptLine}
-use Rattle.run_model.specs.declared.script.Setup.{Setup}
-use Rattle.run_model.specs.declared.script.Setup.TheVariants as setups
+use Rattle.script_text.specs.declared.limit.Limit.{Limit}
+use Rattle.script_text.specs.declared.script.ScriptLine.{ScriptLine}
+use Rattle.script_text.specs.declared.script.Setup.{Setup}
+use Rattle.script_text.specs.declared.script.Setup.TheVariants as setups
 use Rattle.run_model.specs.declared.told.Stop.TheVariants.{Ended}
 use Rattle.run_model.specs.World.{World, start}
-use Rattle.run_model.specs.Script.{read_line, setup_after, is_end, parts_of, said_well, are_lines}
+use Rattle.script_text.specs.Script.{read_line, setup_after, is_end, parts_of, said_well, are_lines}
 use Rattle.run_model.specs.Run
 use Rattle.run_model.specs.Run.{Turn, Outcome, turn, run, reached}
 use Rattle.run_law.specs.Complete.{EndsOrIsFull, ScriptsEnd}

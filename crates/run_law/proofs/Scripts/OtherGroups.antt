@@ -7,19 +7,19 @@ use Rattle.host_ids.specs.declared.entry.Entry.{Entry}
 use Rattle.host_ids.specs.declared.proposal.Proposal.{Proposal}
 use Rattle.object_model.specs.declared.mark.Ending.{Ending}
 use Rattle.raft_model.specs.declared.event.LaneEvent.{LaneEvent}
-use Rattle.raft_model.specs.declared.event.LaneEvent.TheVariants as inputs
+use Rattle.raft_model.specs.declared.event.LaneEvent.TheVariants as events
 use Rattle.raft_model.specs.Group.{act, replica_at}
-use Rattle.run_model.specs.declared.script.HostEvent.{HostEvent}
-use Rattle.run_model.specs.declared.script.HostEvent.TheVariants as events
-use Rattle.run_model.specs.declared.told.Told.{Told}
+use Rattle.script_text.specs.declared.script.HostEvent.{HostEvent}
+use Rattle.script_text.specs.declared.script.HostEvent.TheVariants as host_events
+use Rattle.script_text.specs.declared.told.Told.{Told}
 use Rattle.run_model.specs.declared.told.Want.{Want}
 use Rattle.run_model.specs.declared.told.Want.TheVariants as wants
 use Rattle.run_model.specs.declared.told.Stop.{Stop}
 use Rattle.run_model.specs.declared.told.Stop.TheVariants.{Ended, Bad, Full, Spent}
-use Rattle.run_model.specs.declared.line.Line.TheVariants as lines
+use Rattle.script_text.specs.declared.line.Line.TheVariants as lines
 use Rattle.run_model.specs.World.{World, Cell, node_at}
 use Rattle.run_model.specs.Run
-use Rattle.run_model.specs.Run.{Step, applied, answered, event_step, proposes, read_asked, grouped}
+use Rattle.run_model.specs.Run.{RunStep, applied, answered, event_step, proposes, read_asked, grouped}
 use Rattle.run_model.specs.Marks.{marks_of}
 use Rattle.run_law.proofs.Basics.Moves.{marks_of-append}
 use Rattle.run_law.proofs.Group.Notes.{notes_marks}
@@ -77,8 +77,8 @@ answered_silent g contexts c (key ∷ keys) ws n =
 -- ---- each event
 
 -- one of two steps says nothing of a group if neither does
-by_cond : (g : ℕ) (b : Bool) (x y : Step) → IsSilent g x.told → IsSilent g y.told → IsSilent g (cond b x y).told
-by_cond g b x y p q = cond_both b x y (λ (s : Step). IsSilent g s.told) (λ _. p) (λ _. q)
+by_cond : (g : ℕ) (b : Bool) (x y : RunStep) → IsSilent g x.told → IsSilent g y.told → IsSilent g (cond b x y).told
+by_cond g b x y p q = cond_both b x y (λ (s : RunStep). IsSilent g s.told) (λ _. p) (λ _. q)
 
 -- an event of the core says nothing of requests, of whichever group
 core_silent : (g h : ℕ) (e : LaneEvent) (w : World) → IsSilent g (Run.core h e w).told
@@ -87,7 +87,7 @@ core_silent g h e w = notes_marks g (act e w.group).notes
 -- a batch that is handed back, if there is one, says nothing of requests either
 handed_silent : (g h : ℕ) (o : Option Batch) (w : World) → IsSilent g (Run.handed_back h o w).told
 handed_silent g h None w = refl
-handed_silent g h (Some b) w = core_silent g h (inputs.Saved h b.id) w
+handed_silent g h (Some b) w = core_silent g h (events.Saved h b.id) w
 
 -- an apply says nothing of another group
 apply_silent : (g h most : ℕ) (w : World) → IsOther g → IsSilent g (Run.apply h most w).told
@@ -101,24 +101,24 @@ apply_silent g h most w n =
 -- no event at a host says anything of another group
 event_silent : (g h : ℕ) (w : World) (event : HostEvent) → IsOther g → IsSilent g (Run.event_step h event w).told
 unfolding event_step
-event_silent g h w (events.Timeout group) n = core_silent g h (inputs.Timeout h) w
-event_silent g h w (events.Beat group) n = core_silent g h (inputs.Beat h) w
-event_silent g h w (events.Ready group) n = core_silent g h (inputs.Ready h) w
-event_silent g h w (events.Save group) n = let v = Run.taken h w in handed_silent g h (Run.pending_at v h) v
-event_silent g h w (events.Apply group most) n = apply_silent g h most w n
+event_silent g h w (host_events.Timeout group) n = core_silent g h (events.Timeout h) w
+event_silent g h w (host_events.Beat group) n = core_silent g h (events.Beat h) w
+event_silent g h w (host_events.Ready group) n = core_silent g h (events.Ready h) w
+event_silent g h w (host_events.Save group) n = let v = Run.taken h w in handed_silent g h (Run.pending_at v h) v
+event_silent g h w (host_events.Apply group most) n = apply_silent g h most w n
 
 -- a proposal that is asked says nothing of another group
 proposes_silent : (g h : ℕ) (w : World) (context : List ℕ) (p : Proposal) → IsOther g → IsSilent g (Run.proposes h context p w).told
 unfolding proposes
-proposes_silent g h w context p n = by_cond g (Run.is_dropped (Run.noted (inputs.Propose h (Run.next_key w h) p) w)) _ _ (rw n.differs refl) (rw n.differs refl)
+proposes_silent g h w context p n = by_cond g (Run.is_dropped (Run.noted (events.Propose h (Run.next_key w h) p) w)) _ _ (rw n.differs refl) (rw n.differs refl)
 
 -- a read that is asked says nothing of another group
 reads_silent : (g h : ℕ) (w : World) (context query : List ℕ) → IsOther g → IsSilent g (Run.read_asked h (Run.next_key w h) context query w).told
 unfolding read_asked
 reads_silent g h w context query n =
     let key = Run.next_key w h in
-    let ns = Run.noted (inputs.Ask h key) w in
-    by_cond g (Run.is_dropped ns) _ (Run.read_taken h key context query (Run.confirmed_index ns) (Run.moved h (inputs.Ask h key) (Run.named h context w))) (rw n.differs refl)
+    let ns = Run.noted (events.Ask h key) w in
+    by_cond g (Run.is_dropped ns) _ (Run.read_taken h key context query (Run.confirmed_index ns) (Run.moved h (events.Ask h key) (Run.named h context w))) (rw n.differs refl)
     (by_cond g (Run.is_reached (Run.confirmed_index ns) _) _ _ (rw n.differs refl) (rw n.differs refl))
 
 -- ---- the run
@@ -139,7 +139,7 @@ silence_done g n = record {
   settled = λ w number. refl;
   grouped = λ w roster limit e k l m. refl;
   event = λ w host event member. event_silent g host w event n;
-  deliver = λ w e number is. core_silent g e.to (inputs.Deliver number) w;
+  deliver = λ w e number is. core_silent g e.to (events.Deliver number) w;
   propose = λ w host context p member unused. proposes_silent g host w context p n;
   read = λ w host context query member unused few. reads_silent g host w context query n;
 }

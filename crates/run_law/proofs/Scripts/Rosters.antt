@@ -6,13 +6,16 @@ use Rattle.std.specs.Option.{option_map}
 use Rattle.std.proofs.lemmas.Bool.{cond_both, eqb-false, and_parts, ltb-true}
 use Rattle.object_model.specs.Words.{words_of, word, begins, is_name, number_of, number_on, with_digit}
 use Rattle.object_model.specs.Command.{command_of, query_of, most_number}
-use Rattle.run_model.specs.declared.script.ScriptLine.{ScriptLine}
-use Rattle.run_model.specs.declared.script.ScriptLine.TheVariants as script
-use Rattle.run_model.specs.declared.script.HostEvent.{HostEvent}
-use Rattle.run_model.specs.declared.script.Setup.{Setup}
-use Rattle.run_model.specs.Script
-use Rattle.run_model.specs.Script.{read_line, says, behind_four, behind_seven}
+use Rattle.script_text.specs.declared.script.ScriptLine.{ScriptLine}
+use Rattle.script_text.specs.declared.script.ScriptLine.TheVariants as script_lines
+use Rattle.script_text.specs.declared.script.HostEvent.{HostEvent}
+use Rattle.script_text.specs.declared.script.Setup.{Setup}
+use Rattle.script_text.specs.Script
+use Rattle.script_text.specs.Script.{read_line, says, after_four, after_seven}
 use Rattle.run_law.proofs.Group.Law.{AreHosts}
+use Rattle.script_text.specs.declared.limit.TheConstants.{MOST_APPLIED, MOST_LINE}
+use Rattle.host_ids.specs.declared.proposal.TheConstants.{MOST_SESSIONS}
+use Rattle.host_ids.specs.declared.proposal.TheConstants.{MOST_SERIES}
 
 -- a limit of a group's own is positive
 abbrev pub IsPositive : Option ℕ → Type 0
@@ -21,25 +24,25 @@ IsPositive (Some limit) = 1 ≤ limit
 
 -- a line is good: a group's voters are hosts, its own limit is positive, and a read stands where reads may be
 abbrev pub IsGood : Setup → ScriptLine → Type 0
-IsGood setup script.Skipped = Unit {0}
-IsGood setup script.End = Unit {0}
-IsGood setup (script.Host host) = Unit {0}
-IsGood setup (script.Group group kind roster limit) = AreHosts roster × IsPositive limit
-IsGood setup (script.Event host event) = Unit {0}
-IsGood setup (script.Deliver group number) = Unit {0}
-IsGood setup (script.Ask host group context command) = Unit {0}
-IsGood setup (script.Read host group context query) = Script.may_read setup ≡ true
-IsGood setup (script.Register host group context session client) = Unit {0}
-IsGood setup (script.Call host context session command) = Unit {0}
-IsGood setup (script.Again host context session) = Unit {0}
-IsGood setup (script.Completed session) = Unit {0}
-IsGood setup (script.Close host context session) = Unit {0}
-IsGood setup (script.Raw host group context client series responded command) = Unit {0}
-IsGood setup (script.Settle group) = Unit {0}
-IsGood setup (script.Lose group) = Unit {0}
-IsGood setup (script.Wire group number) = Unit {0}
+IsGood setup script_lines.Skipped = Unit {0}
+IsGood setup script_lines.End = Unit {0}
+IsGood setup (script_lines.Host host) = Unit {0}
+IsGood setup (script_lines.Group group kind roster limit) = AreHosts roster × IsPositive limit
+IsGood setup (script_lines.Event host event) = Unit {0}
+IsGood setup (script_lines.Deliver group number) = Unit {0}
+IsGood setup (script_lines.Ask host group context command) = Unit {0}
+IsGood setup (script_lines.Read host group context query) = Script.may_read setup ≡ true
+IsGood setup (script_lines.Register host group context session client) = Unit {0}
+IsGood setup (script_lines.Call host context session command) = Unit {0}
+IsGood setup (script_lines.Again host context session) = Unit {0}
+IsGood setup (script_lines.Completed session) = Unit {0}
+IsGood setup (script_lines.Close host context session) = Unit {0}
+IsGood setup (script_lines.Raw host group context client series responded command) = Unit {0}
+IsGood setup (script_lines.Settle group) = Unit {0}
+IsGood setup (script_lines.Lose group) = Unit {0}
+IsGood setup (script_lines.Wire group number) = Unit {0}
 
--- a number that was read is at most so much
+-- a number that was read is at most the greatest that was asked for
 abbrev IsWithin : ℕ → Option ℕ → Type 0
 IsWithin most None = Unit {0}
 IsWithin most (Some n) = n ≤ most
@@ -80,7 +83,7 @@ module _ (setup : Setup) where
   read_so : (host : ℕ) (words : List (List ℕ)) (text : List ℕ) → Said setup (Script.read_request setup host words text)
   read_so host words text =
       let named = is_name (word words 3) 16 in
-      cond_both ((Script.may_read setup && named) && is_some (query_of text)) (Some (script.Read host 1 (word words 3) text)) None (Said setup)
+      cond_both ((Script.may_read setup && named) && is_some (query_of text)) (Some (script_lines.Read host 1 (word words 3) text)) None (Said setup)
       (λ e. (and_parts (Script.may_read setup) named (and_parts (Script.may_read setup && named) (is_some (query_of text)) e).0).0)
       (λ _. tt)
 
@@ -135,7 +138,7 @@ module _ (setup : Setup) where
       let r = few_read (Script.ascending 0 (slice_split (λ b. b == 44) (word words 3))) (roster_read 0 (slice_split (λ b. b == 44) (word words 3))) in
       by_cond (Script.is_group words 1 && says words 2 (codes "regular")) _ _
       (by_cond (length words == 4) _ _ (group_by_said o None r tt)
-      (by_cond (length words == 5) _ _ (positive_by (number_of 4096 (word words 4)) _ (λ limit l. group_by_said o (Some limit) r l)) tt))
+      (by_cond (length words == 5) _ _ (positive_by (number_of MOST_SESSIONS (word words 4)) _ (λ limit l. group_by_said o (Some limit) r l)) tt))
       tt
 
   -- ---- the other lines
@@ -149,7 +152,7 @@ module _ (setup : Setup) where
   event_said : (host : ℕ) (words : List (List ℕ)) → Said setup (Script.event_line host words)
   event_said host words =
       by_cond (length words == 3) _ _ (event_by_said host (Script.event_of words))
-      (by_cond (begins words 4 (codes "apply")) _ _ (positive_by (number_of 200000 (word words 3)) _ (λ most l. tt)) tt)
+      (by_cond (begins words 4 (codes "apply")) _ _ (positive_by (number_of MOST_APPLIED (word words 3)) _ (λ most l. tt)) tt)
 
   -- a `raw` line with these numbers is good
   raw_by_said : (host : ℕ) (words : List (List ℕ)) (text : List ℕ) (client series responded : Option ℕ) → Said setup (Script.raw_by host words text client series responded)
@@ -162,7 +165,7 @@ module _ (setup : Setup) where
   raw_said : (host : ℕ) (words : List (List ℕ)) (text : List ℕ) → Said setup (Script.raw_line host words text)
   raw_said host words text =
       by_cond (Script.is_named words 3 && is_some (command_of text)) _ _
-      (raw_by_said host words text (number_of most_number (word words 4)) (number_of Script.most_series (word words 5)) (number_of Script.most_series (word words 6))) tt
+      (raw_by_said host words text (number_of most_number (word words 4)) (number_of MOST_SERIES (word words 5)) (number_of MOST_SERIES (word words 6))) tt
 
   -- a `register` line is good
   register_said : (host : ℕ) (words : List (List ℕ)) → Said setup (Script.register_line host words)
@@ -171,17 +174,17 @@ module _ (setup : Setup) where
   -- a line that names a host and the group is good
   replica_said : (host : ℕ) (words : List (List ℕ)) (line : List ℕ) → Said setup (Script.replica_line setup host words line)
   replica_said host words line =
-      by_cond (says words 0 (codes "ask")) _ _ (so _ (script.Ask host 1 (word words 3) (behind_four line)) tt)
-      (by_cond (says words 0 (codes "read")) _ _ (read_so host words (behind_four line))
+      by_cond (says words 0 (codes "ask")) _ _ (so _ (script_lines.Ask host 1 (word words 3) (after_four line)) tt)
+      (by_cond (says words 0 (codes "read")) _ _ (read_so host words (after_four line))
       (by_cond (begins words 6 (codes "register")) _ _ (register_said host words)
-      (by_cond (says words 0 (codes "raw")) _ _ (raw_said host words (behind_seven line)) (event_said host words))))
+      (by_cond (says words 0 (codes "raw")) _ _ (raw_said host words (after_seven line)) (event_said host words))))
 
   -- a line that names a host and a session is good
   session_said : (host : ℕ) (words : List (List ℕ)) (line : List ℕ) → Said setup (Script.session_line host words line)
   session_said host words line =
-      by_cond (says words 0 (codes "call")) _ _ (so _ (script.Call host (word words 2) (word words 3) (behind_four line)) tt)
-      (by_cond (begins words 4 (codes "again")) _ _ (so _ (script.Again host (word words 2) (word words 3)) tt)
-      (by_cond (begins words 4 (codes "close")) _ _ (so _ (script.Close host (word words 2) (word words 3)) tt) tt))
+      by_cond (says words 0 (codes "call")) _ _ (so _ (script_lines.Call host (word words 2) (word words 3) (after_four line)) tt)
+      (by_cond (begins words 4 (codes "again")) _ _ (so _ (script_lines.Again host (word words 2) (word words 3)) tt)
+      (by_cond (begins words 4 (codes "close")) _ _ (so _ (script_lines.Close host (word words 2) (word words 3)) tt) tt))
 
   -- a line that names a host first is good
   at_said : (host : ℕ) (words : List (List ℕ)) (line : List ℕ) → Said setup (Script.line_at setup host words line)
@@ -202,7 +205,7 @@ module _ (setup : Setup) where
   words_said words line =
       by_cond (begins words 2 (codes "host")) _ _ (by_number (Script.host_at words 1) _ (λ host. tt))
       (by_cond (says words 0 (codes "group")) _ _ (group_said words)
-      (by_cond (begins words 2 (codes "completed")) _ _ (so _ (script.Completed (word words 1)) tt)
+      (by_cond (begins words 2 (codes "completed")) _ _ (so _ (script_lines.Completed (word words 1)) tt)
       (by_cond (Script.is_wire_verb words) _ _ (by_cond (Script.is_group words 1) _ _ (wire_said words) tt)
       (by_number (Script.host_at words 1) _ (λ host. at_said host words line)))))
 
@@ -210,6 +213,6 @@ module _ (setup : Setup) where
   pub read_said : (line : List ℕ) → Said setup (read_line setup line)
   unfolding read_line
   read_said line =
-      by_cond (nat_lt 4096 (length line)) _ _ tt
+      by_cond (nat_lt MOST_LINE (length line)) _ _ tt
       (by_cond (Script.is_skipped line) _ _ tt
       (by_cond (begins (words_of line) 1 (codes "end")) _ _ tt (words_said (words_of line) line)))

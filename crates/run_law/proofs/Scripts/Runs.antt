@@ -1,13 +1,13 @@
 -- What each step does is done by a whole run.
 use Rattle.std.proofs.Common.{ℕ, ◌+◌, List, [], ◌∷◌, Option, Some, None, length, append-nil, arith}
 use Rattle.std.proofs.lemmas.Bool.{cond_both}
-use Rattle.run_model.specs.declared.limit.Limit.{Limit}
-use Rattle.run_model.specs.declared.script.ScriptLine.{ScriptLine}
-use Rattle.run_model.specs.declared.script.Setup.{Setup}
-use Rattle.run_model.specs.declared.script.Setup.TheVariants as setups
+use Rattle.script_text.specs.declared.limit.Limit.{Limit}
+use Rattle.script_text.specs.declared.script.ScriptLine.{ScriptLine}
+use Rattle.script_text.specs.declared.script.Setup.{Setup}
+use Rattle.script_text.specs.declared.script.Setup.TheVariants as setups
 use Rattle.run_model.specs.declared.told.Stop.TheVariants.{Ended}
 use Rattle.run_model.specs.World.{World, start}
-use Rattle.run_model.specs.Script.{read_line, setup_after, is_end, parts_of}
+use Rattle.script_text.specs.Script.{read_line, setup_after, is_end, parts_of}
 use Rattle.run_model.specs.Run
 use Rattle.run_model.specs.Run.{Turn, Outcome, turn, run, reached, outcome_of}
 use Rattle.run_law.proofs.Scripts.Rosters.{Said, IsGood, read_said}

@@ -2,7 +2,7 @@ use Rattle.std.proofs.Common.{◌≡◌, refl, sym, Some, slice_get, true, false
 use Rattle.raft_model.specs.Step.{row}
 use Rattle.raft_model.specs.Allowed.{are_allowed}
 use Rattle.raft_model.specs.Group.{act, run}
-use Rattle.wire_codec.specs.declared.envelope.Body.TheVariants as kinds
+use Rattle.wire_codec.specs.declared.envelope.Body.TheVariants as bodies
 use Rattle.raft_runs.specs.Runs.{post}
 use Rattle.raft_runs.specs.Witness.Groups.{three, after}
 use Rattle.raft_runs.specs.Witness.Sentences.{AnswersAreLed}
@@ -15,7 +15,7 @@ unfolding act row
 allowed_shown = refl
 
 -- host 2 answers in term 2
-answer_is : slice_get (after against.unled three).wire 10 ≡ Some (post 2 1 2 (kinds.SnapReply 1 2 true))
+answer_is : slice_get (after against.unled three).wire 10 ≡ Some (post 2 1 2 (bodies.SnapReply 1 2 true))
 unfolding run act row
 answer_is = refl
 

@@ -2,7 +2,7 @@ use Rattle.std.proofs.Common.{◌≡◌, refl, ap, arith, ◌++◌, true}
 use Rattle.raft_model.specs.Step.{row}
 use Rattle.raft_model.specs.Allowed.{are_allowed}
 use Rattle.raft_model.specs.Group.{act, run}
-use Rattle.wire_codec.specs.declared.envelope.Body.TheVariants as kinds
+use Rattle.wire_codec.specs.declared.envelope.Body.TheVariants as bodies
 use Rattle.raft_runs.specs.Runs.{post}
 use Rattle.raft_runs.specs.Witness.Groups.{five, after}
 use Rattle.raft_runs.specs.Witness.Sentences.{AnswersHold}
@@ -18,7 +18,7 @@ allowed_shown = refl
 fails_is : AnswersHold (after (against.heard ++ against.unmatched ++ against.answered) five) → ⊥
 unfolding run act row
 fails_is = λ m.
-    let same : 1 ≡ 2 = ap (λ e. e.term) (m 50 2 1 (post 2 5 2 (kinds.AppendReply true 2)) _ _ refl refl refl refl refl (omega arith) refl refl) in omega (arith, same)
+    let same : 1 ≡ 2 = ap (λ e. e.term) (m 50 2 1 (post 2 5 2 (bodies.AppendReply true 2)) _ _ refl refl refl refl refl (omega arith) refl refl) in omega (arith, same)
 
 pub returns : goal.returns
 returns c = record { allowed = allowed_shown; fails = fails_is }

@@ -2,7 +2,7 @@ use Rattle.std.proofs.Common.{◌≡◌, refl, [], ◌∷◌, ◌++◌, Some, sl
 use Rattle.raft_model.specs.Step.{row}
 use Rattle.raft_model.specs.Allowed.{are_allowed}
 use Rattle.raft_model.specs.Group.{act, run}
-use Rattle.wire_codec.specs.declared.envelope.Body.TheVariants as kinds
+use Rattle.wire_codec.specs.declared.envelope.Body.TheVariants as bodies
 use Rattle.raft_runs.specs.Runs.{post}
 use Rattle.raft_runs.specs.Witness.Groups.{three, after, log_at, terms}
 use Rattle.raft_runs.specs.Witness.Starts as starts
@@ -29,7 +29,7 @@ unfolding run act row
 now_is = refl
 
 -- its answer is the last envelope
-answer_is : slice_get (after (starts.overtaken ++ starts.installs) three).wire 14 ≡ Some (post 1 2 2 (kinds.SnapReply 1 2 true))
+answer_is : slice_get (after (starts.overtaken ++ starts.installs) three).wire 14 ≡ Some (post 1 2 2 (bodies.SnapReply 1 2 true))
 unfolding run act row
 answer_is = refl
 

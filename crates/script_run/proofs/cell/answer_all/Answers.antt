@@ -1,7 +1,7 @@
 use Rattle.std.proofs.Common.{◌≡◌, ℕ, ◌+◌, ◌<◌, List, ◌++◌, length, drop, get_or, sym, ap, ◌∙◌, append_assoc, refl, add-one}
 use Rattle.std.proofs.Math.Seq.{drop-cons}
 use Rattle.host_ids.specs.declared.entry.Key.{Key}
-use Rattle.run_model.specs.declared.told.Told.{Told}
+use Rattle.script_text.specs.declared.told.Told.{Told}
 use Rattle.run_model.specs.declared.told.Want.{Want}
 use Rattle.run_model.specs.World.{Cell}
 use Rattle.run_model.specs.Run.{Answered, answered, answer_told, want_of, without}

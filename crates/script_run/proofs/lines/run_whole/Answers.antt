@@ -1,4 +1,4 @@
-use Rattle.std.proofs.Common.{◌≡◌, sym, ◌∙◌, ap, ◌++◌, ◌+◌, List, ℕ, None, length, append_assoc, arith}
+use Rattle.std.proofs.Common.{◌≡◌, refl, sym, ◌∙◌, ap, ◌++◌, ◌+◌, List, ℕ, None, length, append_assoc, arith}
 use Rattle.run_model.specs.Run.{turn, reached, text_of}
 use Rattle.script_run.specs.World.{world_of}
 use Rattle.script_run.proofs.Runs.{ends, at_limit, at_bad, at_end, at_long, next_ahead, full_reached, reached_below}
@@ -16,17 +16,18 @@ returns-in-Some-reached c =
       },
     )
 
-pub returns-in_default-2 : goal.returns-in_default-2
-returns-in_default-2 c =
+pub returns-in-Err-BadLine : goal.returns-in-Err-BadLine
+returns-in-Err-BadLine c =
     let v = c.script.invariant in
-    let r = c.script.runner in (
+    let r = c.script.runner in
+    let bad = c.in-Err-BadLine.ensures.bad c.in-Err-BadLine.field-0-0 (rw c.in-Err-BadLine.field-0-is refl) in (
       v.0,
       v.1.printed,
       record {
         own = λ spent. spent;
         reached = λ more. ends v.0 _ _ _ _ (v.1.ahead more)
             (rw (c.in-Some.ensures.parts more)
-            (at_bad r.setup (world_of r.world) r.lines r.size c.in-Some.line.now (c.in-Some.after.now ++ more) (sym c.reached.ensures ∙ c.in_default-reached.is) (sym c.in_ok-said.ensures.line ∙ c.in_default-2.is)));
+            (at_bad r.setup (world_of r.world) r.lines r.size c.in-Some.line.now (c.in-Some.after.now ++ more) (sym c.reached.ensures ∙ c.in_default-reached.is) bad.1));
       },
     )
 
@@ -40,23 +41,23 @@ returns-then-is_end c =
         own = λ spent. spent;
         reached = λ more. ends v.0 _ _ _ _ (v.1.ahead more)
             (rw (c.in-Some.ensures.parts more)
-            (at_end r.setup (world_of r.world) r.lines r.size c.in-Some.line.now (c.in-Some.after.now ++ more) c.in-Some-2.said (sym c.reached.ensures ∙ c.in_default-reached.is) (sym c.in_ok-said.ensures.line ∙ c.in-Some-2.is) (sym c.is_end.ensures ∙ c.if-is_end.true)));
+            (at_end r.setup (world_of r.world) r.lines r.size c.in-Some.line.now (c.in-Some.after.now ++ more) c.in-Ok.said (sym c.reached.ensures ∙ c.in_default-reached.is) c.in-Ok.ensures.line (sym c.is_end.ensures ∙ c.if-is_end.true)));
       },
     )
 
-pub returns-in-Some-3 : goal.returns-in-Some-3
-returns-in-Some-3 c =
+pub returns-in-Some-2 : goal.returns-in-Some-2
+returns-in-Some-2 c =
     let v = c.script.invariant in
     let r = c.script.runner in
     let w = world_of r.world in
-    let lines = text_of (turn c.in-Some-2.said (r.size + (length c.in-Some.line.now + 1)) w).told in (
+    let lines = text_of (turn c.in-Ok.said (r.size + (length c.in-Some.line.now + 1)) w).told in (
       v.0 ++ lines,
       c.in_ok-limit.ensures.told ∙ ap (λ (l : List ℕ). l ++ lines) v.1.printed ∙ append_assoc c.args.out.now v.0 lines,
       record {
         own = λ spent. spent;
         reached = λ more. rw c.in_ok-limit.ensures.world
-            (full_reached v.0 r.setup w r.lines r.size (c.script.rest.now ++ more) c.in-Some.line.now (c.in-Some.after.now ++ more) c.in-Some-2.said c.in-Some-3.limit _ (v.1.ahead more) (c.in-Some.ensures.parts more)
-            (sym c.reached.ensures ∙ c.in_default-reached.is) (sym c.in_ok-said.ensures.line ∙ c.in-Some-2.is) (sym c.is_end.ensures ∙ c.if-is_end.false) (sym c.in_ok-limit.ensures.full ∙ c.in-Some-3.is));
+            (full_reached v.0 r.setup w r.lines r.size (c.script.rest.now ++ more) c.in-Some.line.now (c.in-Some.after.now ++ more) c.in-Ok.said c.in-Some-2.limit _ (v.1.ahead more) (c.in-Some.ensures.parts more)
+            (sym c.reached.ensures ∙ c.in_default-reached.is) c.in-Ok.ensures.line (sym c.is_end.ensures ∙ c.if-is_end.false) (sym c.in_ok-limit.ensures.full ∙ c.in-Some-2.is));
       },
     )
 
@@ -65,13 +66,13 @@ script-preserved c =
     let v = c.script.invariant in
     let r = c.script.runner in
     let w = world_of r.world in
-    let lines = text_of (turn c.in-Some-2.said (r.size + (length c.in-Some.line.now + 1)) w).told in (
+    let lines = text_of (turn c.in-Ok.said (r.size + (length c.in-Some.line.now + 1)) w).told in (
       v.0 ++ lines,
       record {
         printed = c.in_ok-limit.ensures.told ∙ ap (λ (l : List ℕ). l ++ lines) v.1.printed ∙ append_assoc c.args.out.now v.0 lines;
         ahead = λ more. rw (c.in_ok-limit.ensures.world, c.setup_after-runner.ensures)
-            (next_ahead v.0 r.setup w r.lines r.size (c.script.rest.now ++ more) c.in-Some.line.now (c.in-Some.after.now ++ more) c.in-Some-2.said _ (v.1.ahead more) (c.in-Some.ensures.parts more)
-            (sym c.reached.ensures ∙ c.in_default-reached.is) (sym c.in_ok-said.ensures.line ∙ c.in-Some-2.is) (sym c.is_end.ensures ∙ c.if-is_end.false) (sym c.in_ok-limit.ensures.full ∙ c.in_default-3.is));
+            (next_ahead v.0 r.setup w r.lines r.size (c.script.rest.now ++ more) c.in-Some.line.now (c.in-Some.after.now ++ more) c.in-Ok.said _ (v.1.ahead more) (c.in-Some.ensures.parts more)
+            (sym c.reached.ensures ∙ c.in_default-reached.is) c.in-Ok.ensures.line (sym c.is_end.ensures ∙ c.if-is_end.false) (sym c.in_ok-limit.ensures.full ∙ c.in_default-2.is));
         sizes = omega (arith, c.in-Some.ensures.length, v.1.sizes);
         counts = omega (arith, v.1.counts);
       },
@@ -89,8 +90,8 @@ returns-in-Some-full c =
       },
     )
 
-pub returns-then-rest-gt4096 : goal.returns-then-rest-gt4096
-returns-then-rest-gt4096 c =
+pub returns-then-rest-gt-MOST_LINE : goal.returns-then-rest-gt-MOST_LINE
+returns-then-rest-gt-MOST_LINE c =
     let v = c.script.invariant in
     let r = c.script.runner in (
       v.0,
@@ -98,7 +99,7 @@ returns-then-rest-gt4096 c =
       record {
         own = λ spent. spent;
         reached = λ more. ends v.0 _ _ _ _ (v.1.ahead more)
-            (at_long r.setup (world_of r.world) r.lines r.size c.script.rest.now more (sym c.reached-full.ensures ∙ c.in_default-full.is) c.in_default.ensures.parts c.if-rest-gt4096.true);
+            (at_long r.setup (world_of r.world) r.lines r.size c.script.rest.now more (sym c.reached-full.ensures ∙ c.in_default-full.is) c.in_default.ensures.parts c.if-rest-gt-MOST_LINE.true);
       },
     )
 
@@ -112,7 +113,7 @@ returns c =
       record {
         ahead = v.1.ahead;
         open_end = c.in_default.ensures.parts;
-        short = c.if-rest-gt4096.false;
+        short = c.if-rest-gt-MOST_LINE.false;
         below = reached_below (world_of r.world) r.size within;
         within = within;
         sizes = v.1.sizes;

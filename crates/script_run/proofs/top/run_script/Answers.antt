@@ -17,13 +17,13 @@ pub returns-in-Ok-Dry-clause-headline : goal.returns-in-Ok-Dry-clause-headline
 returns-in-Ok-Dry-clause-headline g c = λ e. cut_headed _ _ _ _ _ _ _ c.finish-in-Ok-Dry.ensures.finished e
 
 pub returns-in-Ok-Faulted-clause-run : goal.returns-in-Ok-Faulted-clause-run
-returns-in-Ok-Faulted-clause-run g c = faulted_runs c.runs_are_legal.ensures.so_far _ _ _ _ _ _ 4 refl (rw c.in-Ok-Faulted.field-0-is at c.in-Ok-Faulted.ensures.streamed)
+returns-in-Ok-Faulted-clause-run g c = rw c.status-in-Ok-Faulted.ensures (faulted_runs c.runs_are_legal.ensures.so_far _ _ _ _ _ _ 4 refl (rw c.in-Ok-Faulted.field-0-is at c.in-Ok-Faulted.ensures.streamed))
 
 pub returns-in-Err-Failed-clause-run : goal.returns-in-Err-Failed-clause-run
-returns-in-Err-Failed-clause-run g c = given_up_runs c.runs_are_legal.ensures.so_far _ _ _ _ 5 (inl refl) c.in-Err-Failed.ensures.err
+returns-in-Err-Failed-clause-run g c = rw c.status-in-Err-Failed.ensures (given_up_runs c.runs_are_legal.ensures.so_far _ _ _ _ 5 (inl refl) c.in-Err-Failed.ensures.err)
 
 pub returns-clause-run : goal.returns-clause-run
-returns-clause-run g c = given_up_runs c.runs_are_legal.ensures.so_far _ _ _ _ 8 (inr refl) c.in-Err-NoMemory.ensures.err
+returns-clause-run g c = rw c.status-in-Err-NoMemory.ensures (given_up_runs c.runs_are_legal.ensures.so_far _ _ _ _ 8 (inr refl) c.in-Err-NoMemory.ensures.err)
 
 pub returns-in_default-clause-run : goal.returns-in_default-clause-run
-returns-in_default-clause-run g c = given_up_runs c.runs_are_legal.ensures.so_far _ _ _ _ 8 (inr refl) (nothing_done _ _)
+returns-in_default-clause-run g c = rw c.status.ensures (given_up_runs c.runs_are_legal.ensures.so_far _ _ _ _ 8 (inr refl) (nothing_done _ _))

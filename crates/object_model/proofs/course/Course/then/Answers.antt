@@ -1,5 +1,5 @@
 use Rattle.std.proofs.Common.{rules, ◌≡◌, ◌++◌, [], ◌∷◌, ap, sym}
-use Rattle.object_model.specs.declared.course.Step.{Step}
+use Rattle.object_model.specs.declared.course.CourseStep.{CourseStep}
 use Rattle.object_model.specs.Sequence.{client_of, does_act, stands, verdict}
 use Rattle.object_model.specs.Course.{Course, history_of}
 use Rattle.object_model.proofs.Courses.{follows_more}
@@ -7,7 +7,7 @@ use Rattle.object_model.proofs.course.Course.then.Goals as goal
 
 pub invariant_of-result : goal.invariant_of-result
 invariant_of-result c =
-    let step : Step = record { proposal = c.args.proposal; stood = c.stands-stood.result; acts = c.does_act-acts.result; reply = c.in_ok-reply.reply } in
+    let step : CourseStep = record { proposal = c.args.proposal; stood = c.stands-stood.result; acts = c.does_act-acts.result; reply = c.in_ok-reply.reply } in
     let limit : c.args.self.limit ≡ c.self.inside.limit = ap (λ (x : Course). x.limit) (sym c.self.view_is) in
     let history : c.args.self.history ≡ history_of c.self.inside.steps.items = ap (λ (x : Course). x.history) (sym c.self.view_is) in
     let more : c.push.new.self.items ≡ c.self.inside.steps.items ++ step ∷ [] = search rules in

@@ -17,17 +17,17 @@ returns-then-limit-eq0-clause-not_table c = λ place e.
 pub returns-in-None-number_32-clause-not_table : goal.returns-in-None-number_32-clause-not_table
 returns-in-None-number_32-clause-not_table c = λ place e.
     (let one : 1 ≤ c.in-Some.limit = omega (arith, c.if-limit-eq0.false) in
-    err_at _ 4 place (same_place 4 place e) (number_cut c.in-Some.limit c.args.bytes.now c.in-Some.ensures.there c.in-Some.ensures.number one c.if-limit-gt4096.false (c.in-None-number_32.ensures.cut refl)))
+    err_at _ 4 place (same_place 4 place e) (number_cut c.in-Some.limit c.args.bytes.now c.in-Some.ensures.there c.in-Some.ensures.number one c.if-limit-gt-MOST_SESSIONS.false (c.in-None-number_32.ensures.cut refl)))
 
 pub returns-then-limit-count-clause-not_table : goal.returns-then-limit-count-clause-not_table
 returns-then-limit-count-clause-not_table c = λ place e.
     (let one : 1 ≤ c.in-Some.limit = omega (arith, c.if-limit-eq0.false) in
-    err_at _ 4 place (same_place 4 place e) (number_refused c.in-Some.limit c.args.bytes.now c.in-Some.ensures.there c.in-Some.ensures.number one c.if-limit-gt4096.false c.in-Some-number_32.count c.in-Some-number_32.ensures.there c.in-Some-number_32.ensures.number c.if-limit-count.true))
+    err_at _ 4 place (same_place 4 place e) (number_refused c.in-Some.limit c.args.bytes.now c.in-Some.ensures.there c.in-Some.ensures.number one c.if-limit-gt-MOST_SESSIONS.false c.in-Some-number_32.count c.in-Some-number_32.ensures.there c.in-Some-number_32.ensures.number c.if-limit-count.true))
 
 pub loop-read-init : goal.loop-read-init
 loop-read-init c =
     let one : 1 ≤ c.in-Some.limit = omega (arith, c.if-limit-eq0.false) in
-    none_opened c.args.bytes.now c.in-Some.limit c.in-Some-number_32.count c.in_ok-table.table c.in-Some-number_32.ensures.there c.in_ok-table.ensures.table (number_there c.in-Some.limit c.args.bytes.now c.in-Some.ensures.there c.in-Some.ensures.number one c.if-limit-gt4096.false c.in-Some-number_32.count c.in-Some-number_32.ensures.there c.in-Some-number_32.ensures.number c.if-limit-count.false)
+    none_opened c.args.bytes.now c.in-Some.limit c.in-Some-number_32.count c.in_ok-table.table c.in-Some-number_32.ensures.there c.in_ok-table.ensures.table (number_there c.in-Some.limit c.args.bytes.now c.in-Some.ensures.there c.in-Some.ensures.number one c.if-limit-gt-MOST_SESSIONS.false c.in-Some-number_32.count c.in-Some-number_32.ensures.there c.in-Some-number_32.ensures.number c.if-limit-count.false)
 
 pub loop-read-preserved : goal.loop-read-preserved
 loop-read-preserved c =

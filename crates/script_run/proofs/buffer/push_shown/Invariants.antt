@@ -1,6 +1,0 @@
-use Rattle.std.proofs.Common.{◌≡◌, ◌++◌, take}
-use Rattle.run_model.specs.Print.{shown_text}
-use Rattle.script_run.proofs.buffer.push_shown.Given as goal
-
-abbrev pub invariant-loop-byte : goal.invariant-loop-byte
-invariant-loop-byte l = l.held.items ≡ l.initial.held.items ++ shown_text (take l.byte-index l.bytes)

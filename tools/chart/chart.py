@@ -21,7 +21,7 @@ MOST_ROUNDS, MOST_ROWS = 64, 4000
 # where the context stands in the lines that ask something, and the refusals of lines
 CONTEXTS = {"ask": 3, "register": 3, "raw": 3, "read": 3, "call": 2, "again": 2, "close": 2}
 REFUSALS = {"host": "13", "group": "1|13", "deliver": "2|9", "wire": "2|9", "settle": "2", "lose": "2",
-            "completed": "6|7"}
+            "completed": "6|7", "stale": "1|2"}
 ENDINGS = ("done", "rejected", "responded", "registered", "closed", "read", "dropped")
 
 # what is drawn: its name in the legend, its colour, and the path of its mark
@@ -120,6 +120,8 @@ class Chart:
         elif verb in CONTEXTS:
             self.askers[words[CONTEXTS[verb]]] = int(host)
             self.add("request", int(host), re.sub("^(ask [^ ]+) 1", r"\1", told[0]))
+        elif verb == "stale":
+            self.add("ending", int(host), re.sub("^(stale) [^ ]+ 1", r"\1", told[0]))
         elif sort in SORTS:
             self.add(sort, int(host), verb)
         else:
@@ -229,14 +231,18 @@ class Sharing:
         """What a line prints, or may print more than once, where it has something to do."""
         if verb in CONTEXTS:
             return r"ask {0} .*\n(?:dropped {0}\n|read {0} .*\n)?".format(words[CONTEXTS[verb]])
-        if verb in ("host", "wire"):
-            return "started %s .*\n" % words[1] if verb == "host" else "wire 1 %s .*\n" % words[2]
+        if verb in ("host", "wire", "stale"):
+            return {"host": "started %s .*\n", "wire": "wire 1 %s .*\n", "stale": "stale %s 1 .*\n"}[verb] % (
+                words[2 if verb == "wire" else 1])
         if verb in ("settle", "apply"):
             contexts = "|".join(self.contexts["any" if verb == "settle" else words[1]])
             return "(?:%s) (?:%s) .*\n" % ("|".join(ENDINGS), contexts) + "|leader .*\n" * (verb == "settle")
         known = self.wire.get(int(words[2])) if verb == "deliver" else None
         elects = verb == "deliver" and (not known or known.kind == "votereply") or verb == "save" and self.alone
-        return "leader .*\n" if elects else "(?!)"
+        confirms = verb == "deliver" and (not known or known.kind in ("beatreply", "readanswer"))
+        asked = self.contexts[str(known.receiver) if known else "any"]
+        told = ["leader .*\n"] * elects + ["read (?:%s) .*\n" % "|".join(asked)] * confirms
+        return "|".join(told) or "(?!)"
 
     def ends(self, line, at):
         """Where what a line printed may end in the output, where it begins there; the likeliest first."""
@@ -246,7 +252,7 @@ class Sharing:
             return [at] if line != "end" else [len(self.output)] if last else []
         refused = re.compile(r"refused (?:%s)\n" % REFUSALS.get(verb, "[12567]|14")).match(self.output, at)
         told = re.compile(self.pattern(verb, words))
-        if verb in CONTEXTS or verb in ("host", "wire"):
+        if verb in CONTEXTS or verb in ("host", "wire", "stale"):
             return [match.end() for match in (told.match(self.output, at), refused) if match]
         if self.output.startswith("idle\n", at) and verb in ("timeout", "beat", "ready", "save", "apply"):
             return [at + 5, at] if verb == "apply" else [at, at + 5]

@@ -20,7 +20,8 @@ KEPT = "difference.script"
 SECONDS = 120
 LOADS = ["follower 38000", "follower 60000", "single 60000", "asks 100000", "asks 199999",
          "unsaved 60000 7", "unsaved 100000 3", "unsaved 199999 3", "unsaved 199999 7",
-         "older 50000", "older 100000", "comments 20000"]
+         "older 50000", "older 100000", "reads 30000", "reads 90000", "reads_follower 20000",
+         "reads_follower 60000", "comments 20000"]
 TIMES = 3
 
 
@@ -99,7 +100,7 @@ def same_bytes(one, other):
 
 
 def compare_loads(programs):
-    print("%-18s %10s %10s %10s %10s %10s %10s" % (
+    print("%-20s %10s %10s %10s %10s %10s %10s" % (
         ("load",) + ("product s", "cpu s", "MB") + ("plain s", "cpu s", "MB")))
     with tempfile.TemporaryDirectory() as folder:
         path = os.path.join(folder, "script")
@@ -115,7 +116,7 @@ def compare_loads(programs):
                 statuses.append(best[3])
             equal = statuses[0] == statuses[1] and same_bytes(*outputs)
             note = "" if equal else "  DIFFERS, status %s and %s" % tuple(statuses)
-            print("%-18s " % load + " ".join("%10s" % word for word in row) + note, flush=True)
+            print("%-20s " % load + " ".join("%10s" % word for word in row) + note, flush=True)
 
 
 def main(words):

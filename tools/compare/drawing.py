@@ -32,7 +32,9 @@ BAD_LINES = [
     b"completed s s", b"completed S", b"close 1 zz", b"close 1 1 zz s", b"raw 1 1 zz 0 1 0 put x 1",
     b"raw 1 1 zz 1 0 0 put x 1", b"raw 1 1 zz 1 18446744073709551614 0 put x 1",
     b"raw 1 1 zz 1 1 18446744073709551614 put x 1", b"raw 1 1 zz 1 1 put x 1",
-    b"raw 1 1 zz 18446744073709551616 1 0 put x 1", b"stale 1 1 get x", b"patience 5", b"tick 1",
+    b"raw 1 1 zz 18446744073709551616 1 0 put x 1", b"stale 1 1 zz get x", b"stale 1 1 put x 1",
+    b"stale 1 1 get", b"stale 1 1 count 1", b"stale 1 1", b"stale 1 2 count", b"stale 0 1 count",
+    b"stale 1 1 get X", b"read 1 2 zz count", b"read 1 1 count", b"patience 5", b"tick 1",
     b"snap 1 1", b"part 1 1 9", b"keep 1 1", b"sync 1 1", b"compact 1 1 1", b"stream 1 1 2 16",
     b"chunk 1 1", b"install 1 1", b"crash 1 0", b"start 1", b"tear 1 0 save 1 1", b"host\t1",
     b"host 1\x00", b"host \xc3\xa9", b"\x7f", b"ask 1 1 zz put x \xff", b" ", b"walk", b" # a",
@@ -42,8 +44,8 @@ SKIPPED = [b"", b"#", b"# a comment", b"#end", b"#" * 4096, b"# \x00\xff\r\t", b
 
 # how often each move comes, by the kind of script
 BASE = {"timeout": 2, "beat": 5, "save": 14, "ready": 4, "apply": 5, "deliver": 24, "repeat": 3,
-        "old": 3, "show": 1, "lose": 2, "settle": 6, "elect": 2, "depose": 2, "ask": 11, "ask_read": 4,
-        "register": 3, "call": 6, "again": 3, "completed": 2, "close": 1, "raw": 2, "spoil": 1,
+        "old": 3, "show": 1, "lose": 2, "settle": 6, "elect": 2, "depose": 2, "ask": 11, "ask_read": 7,
+        "stale": 2, "register": 3, "call": 6, "again": 3, "completed": 2, "close": 1, "raw": 2, "spoil": 1,
         "skip": 1, "burst": 0, "apart": 3}
 KINDS = {
     "mixed": {},
@@ -55,6 +57,7 @@ KINDS = {
                  "settle": 12, "ask_read": 6},
     "refusals": {"spoil": 25, "skip": 6, "register": 6, "call": 10, "close": 4, "show": 6},
     "bursts": {"burst": 5, "ask": 4, "repeat": 6, "depose": 3},
+    "reads": {"ask_read": 25, "stale": 8, "beat": 9, "apply": 9, "depose": 5, "apart": 9, "old": 9},
 }
 
 
@@ -79,8 +82,6 @@ class Drawing:
         self.others = [host for host in range(1, 10) if host not in self.voters]
         self.leader = self.voters[0]
         weights = dict(BASE, **KINDS[rng.choice(sorted(KINDS))])
-        if size > 1:
-            weights["ask_read"] = 0
         self.begin()
         moves = sorted(weights)
         numbers = [weights[move] for move in moves]
@@ -123,7 +124,8 @@ class Drawing:
             "save %d 1" % host, "timeout %d 1" % host, "settle 1", "lose 1", "wire 1 1",
             "deliver 1 1", "ask %d 1 %s put x 1" % (host, self.context()), "completed s1",
             "call %d %s s1 put x 1" % (host, self.context()), "again %d a s1" % host,
-            "register %d 1 a s1 5" % host, "close %d a s1" % host, "apply %d 1 1" % host]))
+            "register %d 1 a s1 5" % host, "close %d a s1" % host, "apply %d 1 1" % host,
+            "read %d 1 %s count" % (host, self.context()), "stale %d 1 count" % host]))
 
     def ending(self):
         """Mostly the line that ends a script, at times with more behind it, or a bad line."""
@@ -136,9 +138,6 @@ class Drawing:
             return b""
         if drawn < 0.87:
             return rng.choice([b"end", b"settle 1", b"#", b"# a", b"host 1", b"\xff"])
-        if drawn < 0.89:
-            early = b"" if len(self.voters) > 1 else b"group 1 regular 1,2\n"
-            return early + b"read %d 1 zz count\nend\n" % self.leader
         return rng.choice(BAD_LINES[1:]) + b"\nend\n"
 
     # what the program shows
@@ -285,6 +284,8 @@ class Drawing:
         deposed = self.leader
         for _ in range(self.rng.choice([1, 2, 70])):
             self.say("ask %d 1 %s %s" % (deposed, self.context(), self.command()))
+        if self.rng.random() < 0.4:
+            self.read_at(deposed)
         self.say("save %d 1" % deposed)
         self.lose()
         heir = self.rng.choice(heirs)
@@ -305,6 +306,8 @@ class Drawing:
             if rng.random() < 0.5:
                 asked = rng.choice([self.leader, rng.choice(together)])
                 self.say("ask %d 1 %s %s" % (asked, self.context(), self.command()))
+            if rng.random() < 0.3:
+                self.read_at(rng.choice([self.leader, self.voter()]))
             if rng.random() < 0.3:
                 self.say("beat %d 1" % self.leader)
             for host in together:
@@ -360,9 +363,17 @@ class Drawing:
     def ask(self):
         self.say("ask %d 1 %s %s" % (self.asker(), self.context(), self.command()))
 
+    def query(self):
+        return self.rng.choice(["count"] + ["get %s" % key for key in KEYS])
+
     def ask_read(self):
-        query = self.rng.choice(["count"] + ["get %s" % key for key in KEYS])
-        self.say("read %d 1 %s %s" % (self.asker(), self.context(), query))
+        self.read_at(self.asker())
+
+    def read_at(self, host):
+        self.say("read %d 1 %s %s" % (host, self.context(), self.query()))
+
+    def stale(self):
+        self.say("stale %d 1 %s" % (self.asker(), self.query()))
 
     def register(self):
         if not self.clients or self.rng.random() < 0.8:
@@ -407,9 +418,10 @@ class Drawing:
                 "register %d 1 %s %s 5" % (host, used, self.name()), "completed %s" % other,
                 "ask %d 1 %s put x %s" % (host, used, "v" * rng.choice([505, 506, 507])),
                 "call %d %s %s put x %s" % (self.leader, used, other, "v" * 506),
-                "raw %d 1 %s 7 1 0 put x %s" % (host, used, "v" * 506)]))
+                "raw %d 1 %s 7 1 0 put x %s" % (host, used, "v" * 506),
+                "read %d 1 %s count" % (host, used)]))
         line = rng.choice(["host %d", "group 1 regular %d", "group 1 regular %d 7", "save %d 1",
-                           "timeout %d 1", "beat %d 1", "ready %d 1", "apply %d 1 3",
+                           "timeout %d 1", "beat %d 1", "ready %d 1", "apply %d 1 3", "stale %d 1 count",
                            "deliver 1 %d00000", "deliver 1 0", self.wire_line()])
         if line.startswith("host") and rng.random() < 0.8:
             host = self.voters[0]

@@ -7,6 +7,8 @@
     python3 scripts.py unsaved N V        V voters, N commands at the leader, then its save
     python3 scripts.py older N            three voters, N commands that nobody else gets, and then a new
                                           term, in whose settles the others catch up
+    python3 scripts.py reads N            three voters, N reads at the leader, then a settle
+    python3 scripts.py reads_follower N   three voters, N reads at a follower, then a settle
     python3 scripts.py comments N         N comments of 4,096 bytes
 
 A script goes to standard output. The same seed gives the same script again.
@@ -78,6 +80,24 @@ def older(count):
     yield "end"
 
 
+def reads(count):
+    yield from election(3)
+    for number in range(1, count + 1):
+        yield "read 1 1 r%d count" % number
+    yield "settle 1"
+    yield "end"
+
+
+def reads_follower(count):
+    yield from election(3)
+    yield "beat 1 1"
+    yield "settle 1"
+    for number in range(1, count + 1):
+        yield "read 2 1 r%d count" % number
+    yield "settle 1"
+    yield "end"
+
+
 def comments(count):
     for _ in range(count):
         yield "#" * 4096
@@ -94,7 +114,8 @@ def drawn(seed, plain):
 
 
 LOADS = {"follower": (follower, 1), "single": (single, 1), "asks": (asks, 1),
-         "unsaved": (unsaved, 2), "older": (older, 1), "comments": (comments, 1)}
+         "unsaved": (unsaved, 2), "older": (older, 1), "reads": (reads, 1),
+         "reads_follower": (reads_follower, 1), "comments": (comments, 1)}
 
 
 def main(words):

@@ -31,15 +31,15 @@ def voters_of(rng, size):
     return sorted(rng.sample(range(1, 10), size))
 
 
-def drawn(program, may_read, number, size, attempt=0):
+def drawn(program, number, size, attempt=0):
     """The script of a number, and what it prints: the first that decides enough entries."""
     rng = random.Random("script %d, attempt %d" % (number, attempt))
     voters, limit = voters_of(rng, size), rng.choice(LIMITS)
-    script = Script(rng, voters, limit, may_read or size == 1, program)
+    script = Script(rng, voters, limit, program)
     script.draw(LINES)
     output = program.printed(script.lines)
     if count_of(["entry"], output) < FEWEST_ENTRIES:
-        return drawn(program, may_read, number, size, attempt + 1)
+        return drawn(program, number, size, attempt + 1)
     roster = ",".join(str(voter) for voter in voters)
     head = "= script %d drawn script %d, voters %s" % (limit or 4096, number, roster)
     return [head] + script.lines + ["end"], output
@@ -54,9 +54,9 @@ def main():
     if len(sys.argv) != 2:
         raise SystemExit(__doc__)
     program = Program(os.path.abspath(sys.argv[1]))
-    may_read, sections, counts, several = program.takes_reads(), [], [], 0
+    sections, counts, several = [], [], 0
     for number, size in enumerate(SIZES, 1):
-        section, output = drawn(program, may_read, number, size)
+        section, output = drawn(program, number, size)
         sections += section
         counts.append(counts_of(output))
         several += len(leaders_in(output)) > 1

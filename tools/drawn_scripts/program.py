@@ -2,8 +2,6 @@
 
 import subprocess
 
-PROBE = ["host 1", "host 2", "host 3", "group 1 regular 1,2,3", "read 1 1 a count"]
-
 
 class Program:
     """The program at a path, which runs scripts."""
@@ -22,10 +20,6 @@ class Program:
         if status != 0:
             raise SystemExit("status %d, %s, of the script:\n%s" % (status, output[-1], "\n".join(lines)))
         return output
-
-    def takes_reads(self):
-        """Whether a read is a line where a group has more than one voter."""
-        return self.run(PROBE)[0] == 0
 
     def look(self, lines, known, ahead=200):
         """What a script prints, and the envelopes that it has sent past the first `known` ones."""

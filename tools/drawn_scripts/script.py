@@ -11,11 +11,10 @@ SPOILERS = ["host %d", "group 1 regular %d", "save %d 1", "timeout %d 1", "deliv
 class Script:
     """A group, the lines that were drawn of it, and what the program showed of them so far."""
 
-    def __init__(self, rng, voters, limit, may_read, program):
+    def __init__(self, rng, voters, limit, program):
         self.rng, self.voters, self.program = rng, voters, program
         self.lines, self.contexts, self.clients, self.names = [], [], [], []
         self.envelopes, self.fresh, self.leader = [], [], voters[0]
-        self.moves = [move for move in MOVES if may_read or move[1] is not Script.read]
         self.others = [host for host in range(1, 10) if host not in voters][:2]
         hosts = voters + self.others[:1]
         rng.shuffle(hosts)
@@ -38,9 +37,9 @@ class Script:
     def stage(self, end):
         """Draws moves until there are so many lines, by what the program showed before the first."""
         self.look()
-        weights = [weight for weight, _ in self.moves]
+        weights = [weight for weight, _ in MOVES]
         while len(self.lines) < end:
-            self.rng.choices(self.moves, weights)[0][1](self)
+            self.rng.choices(MOVES, weights)[0][1](self)
 
     def look(self):
         """Looks who leads, and which envelopes are on the wire."""
@@ -145,9 +144,14 @@ class Script:
     def ask(self):
         self.say("ask %d 1 %s %s" % (self.asker(), self.context(), self.command()))
 
+    def query(self):
+        return self.rng.choice(["count"] + ["get %s" % key for key in KEYS])
+
     def read(self):
-        query = self.rng.choice(["count"] + ["get %s" % key for key in KEYS])
-        self.say("read %d 1 %s %s" % (self.asker(), self.context(), query))
+        self.say("read %d 1 %s %s" % (self.asker(), self.context(), self.query()))
+
+    def stale(self):
+        self.say("stale %d 1 %s" % (self.asker(), self.query()))
 
     def register(self):
         """Mostly a new client under a new name."""
@@ -187,7 +191,7 @@ class Script:
 MOVES = [
     (2, Script.timeout), (5, Script.beat), (14, Script.save), (3, Script.ready), (4, Script.apply),
     (24, Script.deliver), (3, Script.repeat), (1, Script.show), (2, Script.lose), (7, Script.settle),
-    (2, Script.elect), (2, Script.depose), (11, Script.ask), (7, Script.read), (3, Script.register),
-    (7, Script.call), (3, Script.again), (1, Script.completed), (1, Script.close), (2, Script.raw),
-    (1, Script.spoil),
+    (2, Script.elect), (2, Script.depose), (11, Script.ask), (7, Script.read), (2, Script.stale),
+    (3, Script.register), (7, Script.call), (3, Script.again), (1, Script.completed), (1, Script.close),
+    (2, Script.raw), (1, Script.spoil),
 ]

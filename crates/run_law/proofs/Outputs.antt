@@ -1,3 +1,2 @@
 -- A whole run's output is legal, whatever the roster.
 pub mod Legal
-pub mod EveryRoster

@@ -20,6 +20,7 @@ line_marks g context (lines.Ask key group proposal) = of_group g group (marks.As
 line_marks g context (lines.AskRead key group query) = of_group g group (marks.Asks context (whats.Queries query))
 line_marks g context (lines.Ended key group place ending) = of_group g group (marks.Ends context place ending)
 line_marks g context (lines.Read key group front answer) = of_group g group (marks.Reads context front answer)
+line_marks g context (lines.Stale host group front query answer) = of_group g group (marks.Stales front query answer)
 line_marks g context (lines.Dropped key group) = of_group g group (marks.Leaves context)
 line_marks g context (lines.Wire group number from to kind term) = []
 line_marks g context (lines.Entry group entry) = of_group g group (marks.Shows entry.index (record { context = context; proposal = entry.proposal }))

@@ -36,8 +36,6 @@ use Rattle.script_text.specs.declared.kind.EnvelopeKind.{EnvelopeKind}
 use Rattle.script_text.specs.declared.kind.EnvelopeKind.TheVariants as kinds
 use Rattle.script_text.specs.declared.script.ScriptLine.{ScriptLine}
 use Rattle.script_text.specs.declared.script.ScriptLine.TheVariants as script_lines
-use Rattle.script_text.specs.declared.script.Setup.{Setup}
-use Rattle.script_text.specs.declared.script.Setup.TheVariants as setups
 use Rattle.script_text.specs.declared.script.HostEvent.{HostEvent}
 use Rattle.script_text.specs.declared.script.HostEvent.TheVariants as host_events
 use Rattle.script_text.specs.declared.limit.Limit.{Limit}
@@ -54,8 +52,8 @@ use Rattle.run_model.specs.declared.told.Want.TheVariants as wants
 use Rattle.run_model.specs.declared.told.Waiting.{Waiting}
 use Rattle.run_model.specs.declared.told.Stop.{Stop}
 use Rattle.run_model.specs.declared.told.Stop.TheVariants.{Ended, Bad, Full, Spent}
-use Rattle.run_model.specs.World.{Cell, Node, World, start, new_node, node_at, contexts_at, is_declared, waiting_order}
-use Rattle.script_text.specs.Script.{read_line, setup_after, is_end, parts_of}
+use Rattle.run_model.specs.World.{Cell, Node, Open, World, start, new_node, node_at, contexts_at, is_declared, waiting_order}
+use Rattle.script_text.specs.Script.{read_line, is_end, parts_of}
 use Rattle.script_text.specs.Print.{print_line, refusal_number}
 
 -- ---- lines with the contexts that they show
@@ -126,58 +124,6 @@ note_told (notes.Pending host id) = []
 note_told notes.Idle = bare lines.Idle ∷ []
 note_told (notes.Dropped key) = []
 note_told (notes.Confirmed host key index) = []
-
-abbrev pub core : ℕ → LaneEvent → World → RunStep
-core h e w = record { world = moved h e w; told = flat_map note_told (noted e w) }
-
--- the pending batch of a host's replica
-abbrev pub pending_at : World → ℕ → Option Batch
-pending_at w h = option_map (λ p. p.batch) (replica_at w.group h).pending
-
--- takes a batch where none is pending
-abbrev pub taken : ℕ → World → World
-taken h w = if is_some (pending_at w h) then w else moved h (events.Ready h) w
-
--- hands a batch back as saved; idle without one
-abbrev pub handed_back : ℕ → Option Batch → World → RunStep
-handed_back h None w = tells w lines.Idle
-handed_back h (Some b) w = core h (events.Saved h b.id) w
-
-abbrev pub save : ℕ → World → RunStep
-save h w = handed_back h (pending_at (taken h w) h) (taken h w)
-
--- an envelope arrives where it is for
-abbrev pub arrives : Option Envelope → ℕ → World → RunStep
-arrives None number w = refuses w refusals.NoEnvelope
-arrives (Some e) number w = core e.to (events.Deliver number) w
-
-unfoldable pub deliver : ℕ → World → RunStep
-deliver number w = unless (not (has_group w)) refusals.NoReplica w (arrives (envelope_at w.group.wire number) number w)
-
--- what an envelope says
-abbrev pub kind_of : Body → EnvelopeKind
-kind_of (bodies.Vote l lt) = kinds.Vote
-kind_of (bodies.VoteReply granted) = kinds.VoteReply
-kind_of (bodies.Append prev prev_term commit entries) = kinds.Append
-kind_of (bodies.AppendReply ok index) = kinds.AppendReply
-kind_of (bodies.Beat commit round) = kinds.Beat
-kind_of (bodies.BeatReply round) = kinds.BeatReply
-kind_of (bodies.SnapChunk index last_term number count size bytes) = kinds.SnapChunk
-kind_of (bodies.SnapReply index want whole) = kinds.SnapReply
-kind_of (bodies.Propose key proposal) = kinds.Propose
-kind_of (bodies.ReadAsk key) = kinds.ReadAsk
-kind_of (bodies.ReadAnswer key index) = kinds.ReadAnswer
-
-abbrev pub shown_by : Option Envelope → ℕ → World → RunStep
-shown_by None number w = refuses w refusals.NoEnvelope
-shown_by (Some e) number w = tells w (lines.Wire 1 number e.from e.to (kind_of e.body) e.term)
-
-unfoldable pub show : ℕ → World → RunStep
-show number w = unless (not (has_group w)) refusals.NoReplica w (shown_by (envelope_at w.group.wire number) number w)
-
--- a settle won't deliver what was sent so far
-unfoldable pub lose : World → RunStep
-lose w = unless (not (has_group w)) refusals.NoReplica w (quiet (record w { settled = length w.group.wire }))
 
 -- ---- requests
 
@@ -335,48 +281,6 @@ close h context name w = of_client (client_at w name) h context w (λ s. closes 
 abbrev pub answer_line : Cell → Key → List ℕ → Line
 answer_line c key query = lines.Read key 1 c.applied (answer c.pairs query)
 
--- the index from which on a read may be answered, where the core notes one
-abbrev pub confirmed_index : List Note → Option ℕ
-confirmed_index [] = None
-confirmed_index (notes.Leader host term ∷ more) = confirmed_index more
-confirmed_index (notes.Pending host id ∷ more) = confirmed_index more
-confirmed_index (notes.Idle ∷ more) = confirmed_index more
-confirmed_index (notes.Dropped key ∷ more) = confirmed_index more
-confirmed_index (notes.Confirmed host key index ∷ more) = Some index
-
--- an open read waits from the time on when it is confirmed
-abbrev pub awaits : Option ℕ → Key → List Waiting → List Waiting
-awaits None key waiting = waiting
-awaits (Some index) key waiting = insert_key waiting_order waiting (record { front = index; key = key })
-
-abbrev pub is_reached : Option ℕ → ℕ → Bool
-is_reached None applied = false
-is_reached (Some index) applied = nat_le index applied
-
--- a read joins the open requests of its host, and waits where it is confirmed
-abbrev pub opened_read : ℕ → Key → List ℕ → Option ℕ → World → World
-opened_read h key query index w =
-    let n = joined key (wants.Read query) (node_at w h) in
-    with_node h (record n { requests = record n.requests { waiting = awaits index key n.requests.waiting } }) w
-
--- a read that is confirmed at what is applied already is answered at once, and another one joins the open requests
-abbrev pub read_taken : ℕ → Key → List ℕ → List ℕ → Option ℕ → World → RunStep
-read_taken h key context query index v =
-    if is_reached index (node_at v h).cell.applied
-    then record { world = v; told = asked context (lines.AskRead key 1 query) (record { context = context; line = answer_line (node_at v h).cell key query } ∷ []) }
-    else record { world = opened_read h key query index v; told = asked context (lines.AskRead key 1 query) [] }
-
-unfoldable pub read_asked : ℕ → Key → List ℕ → List ℕ → World → RunStep
-read_asked h key context query w =
-    let e = events.Ask h key in
-    let v = moved h e (named h context w) in
-    if is_dropped (noted e w)
-    then record { world = v; told = asked context (lines.AskRead key 1 query) (dropped context key ∷ []) }
-    else read_taken h key context query (confirmed_index (noted e w)) v
-
-unfoldable pub reads : ℕ → List ℕ → List ℕ → World → RunStep
-reads h context query w = at_request h context w (read_asked h (next_key w h) context query w)
-
 -- ---- applying
 
 -- a request that is open ends with a line
@@ -456,7 +360,7 @@ pub record Answered : Type 0 where
 abbrev pub answer_told : List (List (List ℕ)) → Cell → Key → Option Want → List Told
 answer_told contexts c key None = []
 answer_told contexts c key (Some wants.Proposal) = []
-answer_told contexts c key (Some (wants.Read query)) = shows contexts key (answer_line c key query) ∷ []
+answer_told contexts c key (Some (wants.Read query front)) = shows contexts key (answer_line c key query) ∷ []
 
 unfoldable pub answered : List (List (List ℕ)) → Cell → List Key → List (Key × Want) → Answered
 answered contexts c [] wants = record { wants = wants; told = [] }
@@ -477,6 +381,119 @@ fed contexts n a = record { cell = a.cell; requests = record { wants = (answers_
 
 abbrev pub applies : ℕ → Node → Applied → World → RunStep
 applies h n a w = record { world = with_node h (fed w.contexts n a) w; told = a.told ++ (answers_due w.contexts n a).told }
+
+-- ---- confirmed reads
+
+-- a read that is open and has no index yet waits for one
+abbrev pub confirmed_by : Option Want → Key → ℕ → Open → Open
+confirmed_by None key index o = o
+confirmed_by (Some wants.Proposal) key index o = o
+confirmed_by (Some (wants.Read query None)) key index o = record {
+  wants = insert_entry key_order o.wants key (wants.Read query (Some index));
+  waiting = insert_key waiting_order o.waiting (record { front = index; key = key });
+}
+confirmed_by (Some (wants.Read query (Some front))) key index o = o
+
+-- the open requests of a host after the notes of an event: the reads that these confirm wait for their index
+unfoldable pub confirmed : List Note → Open → Open
+confirmed [] o = o
+confirmed (notes.Leader host term ∷ more) o = confirmed more o
+confirmed (notes.Pending host id ∷ more) o = confirmed more o
+confirmed (notes.Idle ∷ more) o = confirmed more o
+confirmed (notes.Dropped key ∷ more) o = confirmed more o
+confirmed (notes.Confirmed host key index ∷ more) o = confirmed more (confirmed_by (want_of key o.wants) key index o)
+
+-- a node that has heard the notes of an event
+abbrev pub listening : List Note → Node → Node
+listening ns n = record n { requests = confirmed ns n.requests }
+
+-- a node that is given no entries
+abbrev pub at_rest : Node → Applied
+at_rest n = record { cell = n.cell; wants = n.requests.wants; told = [] }
+
+-- after an event of a host the reads that it confirms wait for their indices, and those whose index is reached are answered
+abbrev pub heard : ℕ → List Note → World → RunStep
+heard h ns w = applies h (listening ns (node_at w h)) (at_rest (listening ns (node_at w h))) w
+
+-- ---- events of the core
+
+-- an event of the core at a host: the lines of what it noted, and then those of the reads that it confirmed
+abbrev pub core : ℕ → LaneEvent → World → RunStep
+core h e w =
+    let s = heard h (noted e w) (moved h e w) in
+    record { world = s.world; told = flat_map note_told (noted e w) ++ s.told }
+
+-- the pending batch of a host's replica
+abbrev pub pending_at : World → ℕ → Option Batch
+pending_at w h = option_map (λ p. p.batch) (replica_at w.group h).pending
+
+-- takes a batch where none is pending
+abbrev pub taken : ℕ → World → World
+taken h w = if is_some (pending_at w h) then w else moved h (events.Ready h) w
+
+-- hands a batch back as saved; idle without one
+abbrev pub handed_back : ℕ → Option Batch → World → RunStep
+handed_back h None w = tells w lines.Idle
+handed_back h (Some b) w = core h (events.Saved h b.id) w
+
+abbrev pub save : ℕ → World → RunStep
+save h w = handed_back h (pending_at (taken h w) h) (taken h w)
+
+-- an envelope arrives where it is for
+abbrev pub arrives : Option Envelope → ℕ → World → RunStep
+arrives None number w = refuses w refusals.NoEnvelope
+arrives (Some e) number w = core e.to (events.Deliver number) w
+
+unfoldable pub deliver : ℕ → World → RunStep
+deliver number w = unless (not (has_group w)) refusals.NoReplica w (arrives (envelope_at w.group.wire number) number w)
+
+-- what an envelope says
+abbrev pub kind_of : Body → EnvelopeKind
+kind_of (bodies.Vote l lt) = kinds.Vote
+kind_of (bodies.VoteReply granted) = kinds.VoteReply
+kind_of (bodies.Append prev prev_term commit entries) = kinds.Append
+kind_of (bodies.AppendReply ok index) = kinds.AppendReply
+kind_of (bodies.Beat commit round) = kinds.Beat
+kind_of (bodies.BeatReply round) = kinds.BeatReply
+kind_of (bodies.SnapChunk index last_term number count size bytes) = kinds.SnapChunk
+kind_of (bodies.SnapReply index want whole) = kinds.SnapReply
+kind_of (bodies.Propose key proposal) = kinds.Propose
+kind_of (bodies.ReadAsk key) = kinds.ReadAsk
+kind_of (bodies.ReadAnswer key index) = kinds.ReadAnswer
+
+abbrev pub shown_by : Option Envelope → ℕ → World → RunStep
+shown_by None number w = refuses w refusals.NoEnvelope
+shown_by (Some e) number w = tells w (lines.Wire 1 number e.from e.to (kind_of e.body) e.term)
+
+unfoldable pub show : ℕ → World → RunStep
+show number w = unless (not (has_group w)) refusals.NoReplica w (shown_by (envelope_at w.group.wire number) number w)
+
+-- a settle won't deliver what was sent so far
+unfoldable pub lose : World → RunStep
+lose w = unless (not (has_group w)) refusals.NoReplica w (quiet (record w { settled = length w.group.wire }))
+
+-- ---- reads
+
+-- a read that the core takes joins the open requests, and is answered at once where it is confirmed at what is applied; one that it drops ends at once
+unfoldable pub read_asked : ℕ → Key → List ℕ → List ℕ → World → RunStep
+read_asked h key context query w =
+    let e = events.Ask h key in
+    let v = moved h e (named h context w) in
+    if is_dropped (noted e w)
+    then record { world = v; told = asked context (lines.AskRead key 1 query) (dropped context key ∷ []) }
+    else (let s = heard h (noted e w) (opened h key (wants.Read query None) v) in record { world = s.world; told = asked context (lines.AskRead key 1 query) s.told })
+
+unfoldable pub reads : ℕ → List ℕ → List ℕ → World → RunStep
+reads h context query w = at_request h context w (read_asked h (next_key w h) context query w)
+
+-- a query is answered from what a host has applied
+abbrev pub stale_answer : ℕ → List ℕ → Cell → Line
+stale_answer h query c = lines.Stale h 1 c.applied query (answer c.pairs query)
+
+unfoldable pub stale : ℕ → List ℕ → World → RunStep
+stale h query w = at_replica h w (tells w (stale_answer h query (node_at w h).cell))
+
+-- ---- applying
 
 -- an entry of a host may be applied
 abbrev pub is_ripe : World → ℕ → Bool
@@ -622,6 +639,7 @@ turn (script_lines.Event host event) size w = whole (at_replica host w (event_st
 turn (script_lines.Deliver number envelope) size w = whole (deliver envelope w)
 turn (script_lines.Ask host number context command) size w = whole (asks host context command (proposals.Plain command) w)
 turn (script_lines.Read host number context query) size w = whole (reads host context query w)
+turn (script_lines.Stale host number query) size w = whole (stale host query w)
 turn (script_lines.Register host number context session client) size w = whole (register host context session client w)
 turn (script_lines.Call host context session command) size w = whole (call host context session command w)
 turn (script_lines.Again host context session) size w = whole (again host context session w)
@@ -667,16 +685,16 @@ abbrev pub cut_short : ℕ → List ℕ → Stop
 cut_short n line = if nat_lt MOST_LINE (length line) then Bad (n + 1) else Spent (n + 1)
 
 -- a run over the parts between line feeds, of which the last is no whole line, where these groups were named, after n lines of `size` bytes: the limits are tried before each line
-unfoldable pub run : Setup → World → ℕ → ℕ → List (List ℕ) → Outcome
-run setup w n size [] = stops w (Spent (n + 1))
-run setup w n size (line ∷ []) = unless_full (reached w size) w (λ v. stops v (cut_short n line))
-run setup w n size (line ∷ next ∷ more) =
+unfoldable pub run : World → ℕ → ℕ → List (List ℕ) → Outcome
+run w n size [] = stops w (Spent (n + 1))
+run w n size (line ∷ []) = unless_full (reached w size) w (λ v. stops v (cut_short n line))
+run w n size (line ∷ next ∷ more) =
     unless_full (reached w size) w
-    (λ v. goes_on (read_line setup line)
-    (λ said. after_turn (turn said (size + (length line + 1)) v) (λ u. run (setup_after said setup) u (n + 1) (size + (length line + 1)) (next ∷ more))) v n)
+    (λ v. goes_on (read_line line)
+    (λ said. after_turn (turn said (size + (length line + 1)) v) (λ u. run u (n + 1) (size + (length line + 1)) (next ∷ more))) v n)
 
 abbrev pub outcome_of : List ℕ → Outcome
-outcome_of text = run setups.Single start 0 0 (parts_of text)
+outcome_of text = run start 0 0 (parts_of text)
 
 abbrev pub text_of : List Told → List ℕ
 text_of told = flat_map (λ t. print_line t.context t.line) told

@@ -10,6 +10,8 @@ pub enum Want {
     Read {
         /// The query.
         query: Text,
+        /// The number of places that must be applied first, once the read is confirmed.
+        front: Option<u64>,
     },
 }
 

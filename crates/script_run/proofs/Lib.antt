@@ -1,6 +1,7 @@
 pub mod Fits
 pub mod Lanes
 pub mod Settles
+pub mod Hearing
 pub mod Insert
 pub mod Parts
 pub mod Runs

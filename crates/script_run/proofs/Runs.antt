@@ -7,12 +7,11 @@ use Rattle.std.proofs.lemmas.Grind.{flat_map-append}
 use Rattle.script_text.specs.declared.limit.Limit.{Limit}
 use Rattle.script_text.specs.declared.limit.Limit.TheVariants as limits
 use Rattle.script_text.specs.declared.script.ScriptLine.{ScriptLine}
-use Rattle.script_text.specs.declared.script.Setup.{Setup}
 use Rattle.script_text.specs.declared.told.Told.{Told}
 use Rattle.run_model.specs.declared.told.Stop.{Stop}
 use Rattle.run_model.specs.declared.told.Stop.TheVariants.{Ended, Bad, Full, Spent}
 use Rattle.run_model.specs.World.{World}
-use Rattle.script_text.specs.Script.{read_line, parts_of, is_end, setup_after}
+use Rattle.script_text.specs.Script.{read_line, parts_of, is_end}
 use Rattle.run_model.specs.Run.{Outcome, run, text_of, told_before, stops, turn, reached}
 use Rattle.script_text.specs.declared.limit.TheConstants.{MOST_ENTRIES, MOST_ENVELOPES, MOST_LINE, MOST_SCRIPT}
 use Rattle.script_run.specs.Reach.{ComesTo, Ahead, HasNoFeed}
@@ -58,72 +57,72 @@ below_by false true bytes h f = absurd cc
 below_by false false true h f = absurd cc
 below_by false false false h f = f refl
 
-limit_by : (setup : Setup) (w : World) (n size : ℕ) (first : List ℕ) (others : List (List ℕ)) (limit : Limit) → reached w size ≡ Some limit → run setup w n size (first ∷ others) ≡ stops w (Full limit)
+limit_by : (w : World) (n size : ℕ) (first : List ℕ) (others : List (List ℕ)) (limit : Limit) → reached w size ≡ Some limit → run w n size (first ∷ others) ≡ stops w (Full limit)
 unfolding run
-limit_by setup w n size first [] limit h = rw h refl
-limit_by setup w n size first (next ∷ more) limit h = rw h refl
+limit_by w n size first [] limit h = rw h refl
+limit_by w n size first (next ∷ more) limit h = rw h refl
 
-pub at_limit : (setup : Setup) (w : World) (n size : ℕ) (text : List ℕ) (limit : Limit) → reached w size ≡ Some limit → run setup w n size (parts_of text) ≡ stops w (Full limit)
-at_limit setup w n size text limit h = let p = has_parts text in rw p.are (limit_by setup w n size p.first p.others limit h)
+pub at_limit : (w : World) (n size : ℕ) (text : List ℕ) (limit : Limit) → reached w size ≡ Some limit → run w n size (parts_of text) ≡ stops w (Full limit)
+at_limit w n size text limit h = let p = has_parts text in rw p.are (limit_by w n size p.first p.others limit h)
 
-pub at_bad : (setup : Setup) (w : World) (n size : ℕ) (line rest : List ℕ) → reached w size ≡ None → read_line setup line ≡ None → run setup w n size (line ∷ parts_of rest) ≡ stops w (Bad (n + 1))
+pub at_bad : (w : World) (n size : ℕ) (line rest : List ℕ) → reached w size ≡ None → read_line line ≡ None → run w n size (line ∷ parts_of rest) ≡ stops w (Bad (n + 1))
 unfolding run
-at_bad setup w n size line rest h e = let p = has_parts rest in rw (p.are, h, e) refl
+at_bad w n size line rest h e = let p = has_parts rest in rw (p.are, h, e) refl
 
-pub at_end : (setup : Setup) (w : World) (n size : ℕ) (line rest : List ℕ) (said : ScriptLine) → reached w size ≡ None → read_line setup line ≡ Some said → is_end said ≡ true
-    → run setup w n size (line ∷ parts_of rest) ≡ stops w Ended
+pub at_end : (w : World) (n size : ℕ) (line rest : List ℕ) (said : ScriptLine) → reached w size ≡ None → read_line line ≡ Some said → is_end said ≡ true
+    → run w n size (line ∷ parts_of rest) ≡ stops w Ended
 unfolding run
-at_end setup w n size line rest said h e t = let p = has_parts rest in rw (p.are, h, e, t) refl
+at_end w n size line rest said h e t = let p = has_parts rest in rw (p.are, h, e, t) refl
 
 -- the run after a line that is none of these
-abbrev pub run_after : Setup → World → ℕ → ℕ → List ℕ → List ℕ → ScriptLine → Outcome
-run_after setup w n size line rest said = run (setup_after said setup) (turn said (size + (length line + 1)) w).world (n + 1) (size + (length line + 1)) (parts_of rest)
+abbrev pub run_after : World → ℕ → ℕ → List ℕ → List ℕ → ScriptLine → Outcome
+run_after w n size line rest said = run (turn said (size + (length line + 1)) w).world (n + 1) (size + (length line + 1)) (parts_of rest)
 
-at_line : (setup : Setup) (w : World) (n size : ℕ) (line rest : List ℕ) (said : ScriptLine) → reached w size ≡ None → read_line setup line ≡ Some said → is_end said ≡ false → (turn said (size + (length line + 1)) w).full ≡ None
-    → run setup w n size (line ∷ parts_of rest) ≡ told_before (turn said (size + (length line + 1)) w).told (run_after setup w n size line rest said)
+at_line : (w : World) (n size : ℕ) (line rest : List ℕ) (said : ScriptLine) → reached w size ≡ None → read_line line ≡ Some said → is_end said ≡ false → (turn said (size + (length line + 1)) w).full ≡ None
+    → run w n size (line ∷ parts_of rest) ≡ told_before (turn said (size + (length line + 1)) w).told (run_after w n size line rest said)
 unfolding run
-at_line setup w n size line rest said h e t f = let p = has_parts rest in rw (p.are, h, e, t, f) refl
+at_line w n size line rest said h e t f = let p = has_parts rest in rw (p.are, h, e, t, f) refl
 
-at_full : (setup : Setup) (w : World) (n size : ℕ) (line rest : List ℕ) (said : ScriptLine) (limit : Limit) → reached w size ≡ None → read_line setup line ≡ Some said → is_end said ≡ false → (turn said (size + (length line + 1)) w).full ≡ Some limit
-    → run setup w n size (line ∷ parts_of rest) ≡ told_before (turn said (size + (length line + 1)) w).told (stops (turn said (size + (length line + 1)) w).world (Full limit))
+at_full : (w : World) (n size : ℕ) (line rest : List ℕ) (said : ScriptLine) (limit : Limit) → reached w size ≡ None → read_line line ≡ Some said → is_end said ≡ false → (turn said (size + (length line + 1)) w).full ≡ Some limit
+    → run w n size (line ∷ parts_of rest) ≡ told_before (turn said (size + (length line + 1)) w).told (stops (turn said (size + (length line + 1)) w).world (Full limit))
 unfolding run
-at_full setup w n size line rest said limit h e t f = let p = has_parts rest in rw (p.are, h, e, t, f) refl
+at_full w n size line rest said limit h e t f = let p = has_parts rest in rw (p.are, h, e, t, f) refl
 
-pub at_last : (setup : Setup) (w : World) (n size : ℕ) (text : List ℕ) → reached w size ≡ None → HasNoFeed text → length text ≤ MOST_LINE → run setup w n size (parts_of text) ≡ stops w (Spent (n + 1))
+pub at_last : (w : World) (n size : ℕ) (text : List ℕ) → reached w size ≡ None → HasNoFeed text → length text ≤ MOST_LINE → run w n size (parts_of text) ≡ stops w (Spent (n + 1))
 unfolding run
-at_last setup w n size text h f s = rw (lone_part text f, h, le-ltb MOST_LINE (length text) s) refl
+at_last w n size text h f s = rw (lone_part text f, h, le-ltb MOST_LINE (length text) s) refl
 
-too_long : (setup : Setup) (line : List ℕ) → MOST_LINE < length line → read_line setup line ≡ None
+too_long : (line : List ℕ) → MOST_LINE < length line → read_line line ≡ None
 unfolding read_line
-too_long setup line h = rw (lt-ltb MOST_LINE (length line) h) refl
+too_long line h = rw (lt-ltb MOST_LINE (length line) h) refl
 
-long_by : (setup : Setup) (w : World) (n size : ℕ) (line : List ℕ) (others : List (List ℕ)) → reached w size ≡ None → MOST_LINE < length line → run setup w n size (line ∷ others) ≡ stops w (Bad (n + 1))
+long_by : (w : World) (n size : ℕ) (line : List ℕ) (others : List (List ℕ)) → reached w size ≡ None → MOST_LINE < length line → run w n size (line ∷ others) ≡ stops w (Bad (n + 1))
 unfolding run
-long_by setup w n size line [] h l = rw (h, lt-ltb MOST_LINE (length line) l) refl
-long_by setup w n size line (next ∷ more) h l = rw (h, too_long setup line l) refl
+long_by w n size line [] h l = rw (h, lt-ltb MOST_LINE (length line) l) refl
+long_by w n size line (next ∷ more) h l = rw (h, too_long line l) refl
 
 -- a part that is too long for a line is a bad one, whatever comes
-pub at_long : (setup : Setup) (w : World) (n size : ℕ) (text more : List ℕ) → reached w size ≡ None → HasNoFeed text → MOST_LINE < length text → run setup w n size (parts_of (text ++ more)) ≡ stops w (Bad (n + 1))
-at_long setup w n size text more h f l =
+pub at_long : (w : World) (n size : ℕ) (text more : List ℕ) → reached w size ≡ None → HasNoFeed text → MOST_LINE < length text → run w n size (parts_of (text ++ more)) ≡ stops w (Bad (n + 1))
+at_long w n size text more h f l =
     let p = has_parts more in
-    rw (joined_parts text more p.first p.others f p.are) (long_by setup w n size (text ++ p.first) p.others h (rw length-append (omega (arith, l))))
+    rw (joined_parts text more p.first p.others f p.are) (long_by w n size (text ++ p.first) p.others h (rw length-append (omega (arith, l))))
 
 -- one line more is run
-pub next_ahead : (done : List ℕ) (setup : Setup) (w : World) (n size : ℕ) (text line rest : List ℕ) (said : ScriptLine) (total : Outcome) → Ahead done (run setup w n size (parts_of text)) total → parts_of text ≡ line ∷ parts_of rest
-    → reached w size ≡ None → read_line setup line ≡ Some said → is_end said ≡ false → (turn said (size + (length line + 1)) w).full ≡ None
-    → Ahead (done ++ text_of (turn said (size + (length line + 1)) w).told) (run_after setup w n size line rest said) total
-next_ahead done setup w n size text line rest said total a p h e t f =
+pub next_ahead : (done : List ℕ) (w : World) (n size : ℕ) (text line rest : List ℕ) (said : ScriptLine) (total : Outcome) → Ahead done (run w n size (parts_of text)) total → parts_of text ≡ line ∷ parts_of rest
+    → reached w size ≡ None → read_line line ≡ Some said → is_end said ≡ false → (turn said (size + (length line + 1)) w).full ≡ None
+    → Ahead (done ++ text_of (turn said (size + (length line + 1)) w).told) (run_after w n size line rest said) total
+next_ahead done w n size text line rest said total a p h e t f =
     let told = (turn said (size + (length line + 1)) w).told in
-    let next = ap (run setup w n size) p ∙ at_line setup w n size line rest said h e t f in
+    let next = ap (run w n size) p ∙ at_line w n size line rest said h e t f in
     further done (text_of told) _ _ total (subst (λ (o : Outcome). Ahead done o total) next a) (told_ahead told _)
 
 -- a limit is reached in a line
-pub full_reached : (done : List ℕ) (setup : Setup) (w : World) (n size : ℕ) (text line rest : List ℕ) (said : ScriptLine) (limit : Limit) (total : Outcome) → Ahead done (run setup w n size (parts_of text)) total → parts_of text ≡ line ∷ parts_of rest
-    → reached w size ≡ None → read_line setup line ≡ Some said → is_end said ≡ false → (turn said (size + (length line + 1)) w).full ≡ Some limit
+pub full_reached : (done : List ℕ) (w : World) (n size : ℕ) (text line rest : List ℕ) (said : ScriptLine) (limit : Limit) (total : Outcome) → Ahead done (run w n size (parts_of text)) total → parts_of text ≡ line ∷ parts_of rest
+    → reached w size ≡ None → read_line line ≡ Some said → is_end said ≡ false → (turn said (size + (length line + 1)) w).full ≡ Some limit
     → ComesTo (done ++ text_of (turn said (size + (length line + 1)) w).told) total (Full limit) (turn said (size + (length line + 1)) w).world
-full_reached done setup w n size text line rest said limit total a p h e t f =
+full_reached done w n size text line rest said limit total a p h e t f =
     let said_turn = turn said (size + (length line + 1)) w in
-    let next = ap (run setup w n size) p ∙ at_full setup w n size line rest said limit h e t f in
+    let next = ap (run w n size) p ∙ at_full w n size line rest said limit h e t f in
     reaches_on done (text_of said_turn.told) _ total said_turn.world (Full limit) (subst (λ (o : Outcome). Ahead done o total) next a)
     (record { stop_is = refl; world_is = refl; told = ap text_of (sym (append-nil said_turn.told)) })
 

@@ -6,7 +6,6 @@ use Rattle.fault_io.specs.Faults.{WritesFront}
 use Rattle.fault_io.proofs.Known.{Appends-append, Appends-none}
 use Rattle.run_model.specs.declared.told.Stop.{Stop}
 use Rattle.run_model.specs.declared.told.Stop.TheVariants.{Spent}
-use Rattle.script_text.specs.declared.script.Setup.TheVariants as setups
 use Rattle.run_model.specs.World.{World, start}
 use Rattle.run_model.specs.Run.{Outcome, outcome_of, text_of, reached, stops}
 use Rattle.script_run.specs.Reach.{Ahead, ComesTo, HasNoFeed, Place, run_on, Leaves, StopsAt, Stopped, IsCut, GivenUp, IsPrompt, IsSpent}
@@ -23,11 +22,11 @@ Consumes-none None = tt
 Consumes-none (Some m) = refl
 
 -- nothing was taken, told or held yet
-pub begins : (left old : Option (List ℕ)) (p : Place) (held : List ℕ) → p.world ≡ start → p.setup ≡ setups.Single → p.lines ≡ 0 → p.size ≡ 0 → held ≡ [] → Under left left old old p held [] []
-begins left old p held w u n z h = record {
+pub begins : (left old : Option (List ℕ)) (p : Place) (held : List ℕ) → p.world ≡ start → p.lines ≡ 0 → p.size ≡ 0 → held ≡ [] → Under left left old old p held [] []
+begins left old p held w n z h = record {
   taken = Consumes-none left;
   written = Appends-none old;
-  ahead = λ more. rw (w, u, n, z, h) (no_way (outcome_of more));
+  ahead = λ more. rw (w, n, z, h) (no_way (outcome_of more));
   sizes = rw (z, h) refl;
 }
 
@@ -67,7 +66,7 @@ pub record Waits (script : List ℕ) (old now : Option (List ℕ)) : Type 0 wher
 -- less than a line is held, and no limit is reached
 ends_here : (left_old left old now : Option (List ℕ)) (p : Place) (held script done : List ℕ) → Under left_old left old now p held script done → HasNoFeed held → length held ≤ 4096 → reached p.world p.size ≡ None
     → ComesTo done (outcome_of script) (Spent (p.lines + 1)) p.world
-ends_here left_old left old now p held script done u f s b = ends done (run_on p held) (outcome_of script) p.world _ (rw (append-nil held, append-nil script) at (u.ahead [])) (at_last p.setup p.world p.lines p.size held b f s)
+ends_here left_old left old now p held script done u f s b = ends done (run_on p held) (outcome_of script) p.world _ (rw (append-nil held, append-nil script) at (u.ahead [])) (at_last p.world p.lines p.size held b f s)
 
 pub waits : (left_old left old now : Option (List ℕ)) (p : Place) (held script done : List ℕ) → Under left_old left old now p held script done → HasNoFeed held → length held ≤ 4096 → reached p.world p.size ≡ None → Waits script old now
 waits left_old left old now p held script done u f s b =
@@ -160,7 +159,7 @@ cut_here left_old left old now p held script done u f s b = record {
 
 -- the run over nothing stands before its first line
 nothing_said : outcome_of [] ≡ stops start (Spent 1)
-nothing_said = at_last setups.Single start 0 0 [] (begins_within start 0 refl refl) tt (omega arith)
+nothing_said = at_last start 0 0 [] (begins_within start 0 refl refl) tt (omega arith)
 
 -- nothing was taken
 nothing_taken : (old : Option (List ℕ)) → IsPrompt [] old old

@@ -3,7 +3,6 @@ use Rattle.std.specs.Prelude.{◌≡◌, ◌≤◌, ◌<◌, ◌+◌, ◌++◌, 
 use Rattle.std.specs.List.{AllByRecursion}
 use Rattle.std.specs.Io.KnownBytes.{Appends, Consumes}
 use Rattle.fault_io.specs.Faults.{WritesFront}
-use Rattle.script_text.specs.declared.script.Setup.{Setup}
 use Rattle.run_model.specs.declared.told.Stop.{Stop}
 use Rattle.run_model.specs.declared.told.Stop.TheVariants.{Ended, Bad, Full, Spent}
 use Rattle.run_model.specs.World.{World}
@@ -28,13 +27,12 @@ HasNoFeed text = AllByRecursion (λ b. (b == 10) ≡ false) text
 
 -- where a run stands: what is declared, its world, its lines, and their bytes
 pub record Place : Type 0 where
-  pub setup : Setup
   pub world : World
   pub lines : ℕ
   pub size : ℕ
 
 abbrev pub run_on : Place → List ℕ → Outcome
-run_on p text = run p.setup p.world p.lines p.size (parts_of text)
+run_on p text = run p.world p.lines p.size (parts_of text)
 
 -- the whole lines of a text are run, and what is left is less than a line, which may go on
 pub record Leaves (done : List ℕ) (before : Place) (text : List ℕ) (after : Place) (rest : List ℕ) : Type 0 where

@@ -21,7 +21,7 @@ use Rattle.script_run.specs.World.{world_of}
 use Rattle.script_run.specs.Reach.{Place, Leaves, StopsAt, Stopped, IsCut, IsPrompt, IsSpent}
 
 abbrev pub place_in : Runner → Place
-place_in r = record { setup = r.setup; world = world_of r.world; lines = r.lines; size = r.size }
+place_in r = record { world = world_of r.world; lines = r.lines; size = r.size }
 
 -- a text was run up to a stop, or up to less than a line, and its lines were printed
 abbrev pub HasGone : List ℕ → List ℕ → Place → List ℕ → Progress → Place → Type 0

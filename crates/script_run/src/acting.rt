@@ -2,7 +2,7 @@ ghost use Rattle.std.specs.Prelude.{◌≡◌, ◌<◌, ◌^◌, ◌+◌, ◌-�
 ghost use Rattle.raft_model.specs.Group.{act, is_member};
 ghost use Rattle.raft_model.specs.Given.{IsGiven};
 ghost use Rattle.run_model.specs.World.{is_declared, node_at};
-ghost use Rattle.run_model.specs.Run.{bare, core, has_any, has_group, is_ripe, is_unsaved, is_used, moved, next_key, noted, reached, unsettled};
+ghost use Rattle.run_model.specs.Run.{bare, core, has_any, heard, has_group, is_ripe, is_unsaved, is_used, moved, next_key, noted, reached, unsettled};
 ghost use Rattle.script_run.specs.Parts.{is_memory, is_leading};
 ghost use Rattle.script_run.specs.World.{world_of};
 ghost use Rattle.script_text.specs.Print.{refusal_number};
@@ -147,7 +147,22 @@ impl World {
         ensures told { OnOk result (out.new ≡ out.old ++ (core host event (world_of self.old)).told) }
     {
         let notes = self.act(host, event)?;
-        tell_notes(self.alloc, &notes, out)
+        tell_notes(self.alloc, &notes, out)?;
+        self.hear(host, &notes, out)
+    }
+
+    /// After an event of a host the reads that it confirmed wait for their indices, and those whose
+    /// index is reached are answered.
+    #[tactic(auto, using(crate::proofs::Hearing::nothing_heard))]
+    pub fn hear(&mut self, host: u8, notes: &[Note], out: &mut Tolds) -> Result<(), NoMemory>
+        ensures world { OnOk result (world_of self.new ≡ (heard host notes.now (world_of self.old)).world) }
+        ensures told { OnOk result (out.new ≡ out.old ++ (heard host notes.now (world_of self.old)).told) }
+    {
+        let place = usize::from(host);
+        if place >= self.nodes.len() {
+            return Ok(());
+        }
+        self.nodes[place].hear(&self.contexts, notes, out)
     }
 
     /// The first limit that is reached, where the lines that were read have `size` bytes.

@@ -1,10 +1,11 @@
 ghost use Rattle.std.specs.Prelude.{◌≡◌, ◌≤◌, ◌<◌, ◌++◌, ℕ, List, true, OnOk, length as list_length};
-ghost use Rattle.run_model.specs.Run.{again, asks, call, close, completed, next_key, of_nobody, proposes, read_asked, read_taken, reads, register, request_refusal};
+ghost use Rattle.run_model.specs.Run.{again, asks, call, close, completed, next_key, of_nobody, proposes, read_asked, reads, register, request_refusal, stale};
 ghost use Rattle.script_run.specs.Fit.{may_ask};
-ghost use Rattle.script_run.specs.World.{world_of, read_after};
+ghost use Rattle.script_run.specs.World.{world_of};
 ghost use Rattle.host_ids.specs.declared.proposal.TheConstants.{MOST_COMMAND};
 
-use crate::notes::{confirmed_index, is_dropped};
+use crate::cell::tell;
+use crate::notes::is_dropped;
 use crate::world::World;
 use host_ids::{Key, MOST_COMMAND, MOST_SERIES, NoMemory, Proposal, Text};
 use raft_core::LaneEvent;
@@ -306,34 +307,25 @@ impl World {
             let line = Line::Dropped { key, group: 1 };
             return out.push(Told { context, line });
         }
-        self.take_read(host, context, key, confirmed_index(&notes), query, out)
+        let want = Want::Read { query, front: None };
+        self.nodes[host as usize].join(key, want)?;
+        self.hear(host, &notes, out)
     }
 
-    /// Answers a read at once that is confirmed at what is applied, or lets it wait.
-    fn take_read(
-        &mut self,
-        host: u8,
-        context: Text,
-        key: Key,
-        index: Option<u64>,
-        query: Text,
-        out: &mut Tolds,
-    ) -> Result<(), NoMemory>
-        requires { host < 10 }
-        ensures world { OnOk result (world_of self.new ≡ (read_taken host key context query index (world_of self.old)).world) }
-        ensures told { OnOk result (out.new ≡ out.old ++ read_after (world_of self.old) host key context query index) }
+    /// The line `stale`: answers a query from what a host has applied.
+    #[tactic(auto, unfolding(run_model::specs::Run::stale))]
+    pub fn stale(&self, host: u8, query: Text, out: &mut Tolds) -> Result<(), NoMemory>
+        requires { (1 ≤ host) × (host ≤ 9) }
+        ensures world { OnOk result (world_of self.now ≡ (stale host query (world_of self.now)).world) }
+        ensures told { OnOk result (out.new ≡ out.old ++ (stale host query (world_of self.now)).told) }
     {
-        let node = &mut self.nodes[host as usize];
-        if let Some(index) = index {
-            if index <= node.applied() {
-                let line = node.answer(key, &query)?;
-                return out.push(Told { context, line });
-            }
+        if !self.is_declared(host) {
+            return self.refuse(Refusal::NotDeclared, out);
         }
-        node.join(key, Want::Read { query })?;
-        match index {
-            None => Ok(()),
-            Some(index) => node.wait(key, index),
+        if !self.is_voter(host) {
+            return self.refuse(Refusal::NoReplica, out);
         }
+        let line = self.nodes[host as usize].stale(host, query)?;
+        tell(self.alloc, line, out)
     }
 }

@@ -1,5 +1,5 @@
 ghost use Rattle.std.specs.Prelude.{◌≡◌, ◌++◌, ◌+◌, ◌<◌, ◌≤◌, ◌^◌, [], ◌∷◌, true, IfOk, OnOk, length};
-ghost use Rattle.run_model.specs.Run.{answer_line, answer_told, answered, applied, applied_by, bare, ended, ending_of, given, shows, want_of, without};
+ghost use Rattle.run_model.specs.Run.{answer_line, answer_told, answered, applied, applied_by, bare, ended, ending_of, given, shows, stale_answer, want_of, without};
 ghost use Rattle.script_run.specs.Cell.{cell_of};
 ghost use Rattle.raft_model.specs.Fit.{are_fit, is_fit};
 ghost use Rattle.wire_codec.specs.Grammar.{are_fit_numbers};
@@ -179,7 +179,7 @@ pub fn apply_all(
 }
 
 /// The line of a read that is answered now.
-pub fn answer_line(cell: &Cell, key: Key, query: &Text) -> Result<Line, NoMemory>
+fn answer_line(cell: &Cell, key: Key, query: &Text) -> Result<Line, NoMemory>
     ensures { IfOk result (λ line. line ≡ answer_line (cell_of cell.now) key query.now) }
 {
     Ok(Line::Read {
@@ -187,6 +187,20 @@ pub fn answer_line(cell: &Cell, key: Key, query: &Text) -> Result<Line, NoMemory
         group: 1,
         front: cell.applied,
         answer: cell.machine.lookup(query)?,
+    })
+}
+
+/// The line of a query that is answered from what the cell of this host was given.
+pub fn stale_answer(cell: &Cell, host: u8, query: Text) -> Result<Line, NoMemory>
+    ensures { IfOk result (λ line. line ≡ stale_answer host query (cell_of cell.now)) }
+{
+    let answer = cell.machine.lookup(&query)?;
+    Ok(Line::Stale {
+        host,
+        group: 1,
+        front: cell.applied,
+        query,
+        answer,
     })
 }
 
@@ -203,7 +217,7 @@ fn answer_one(
 {
     match requests.leave(*key) {
         None | Some(Want::Proposal) => Ok(()),
-        Some(Want::Read { query }) => {
+        Some(Want::Read { query, .. }) => {
             let line = answer_line(cell, *key, &query)?;
             tell_of(contexts, *key, line, out)
         }

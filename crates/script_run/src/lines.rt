@@ -11,17 +11,15 @@ use crate::world::World;
 use host_ids::NoMemory;
 use run_model::Stop;
 use script_text::{
-    Buffer, Limit, LineFault, MOST_LINE, ScriptLine, Setup, Told, Tolds, push_line, read_line,
-    setup_after,
+    Buffer, Limit, LineFault, MOST_LINE, ScriptLine, Told, Tolds, push_line, read_line,
 };
 use std::alloc::Global;
 
-/// A run that is under way: its world, which groups the script has named, and how many lines of how
+/// A run that is under way: its world, and how many lines of how
 /// many bytes were run.
 #[derive(Drop)]
 pub struct Runner {
     pub world: World,
-    pub setup: Setup,
     pub lines: u64,
     pub size: usize,
 }
@@ -87,7 +85,7 @@ pub fn run_whole<'a>(
             return Ok(Progress::Stopped { stop });
         }
         let number = runner.lines + 1;
-        let said = match read_line(alloc, runner.setup, line, number) {
+        let said = match read_line(alloc, line, number) {
             Ok(said) => said,
             Err(LineFault::BadLine { .. }) => {
                 let stop = Stop::Bad { line: number };
@@ -99,7 +97,6 @@ pub fn run_whole<'a>(
             return Ok(Progress::Stopped { stop: Stop::Ended });
         }
         let size = runner.size + (line.len() + 1);
-        runner.setup = setup_after(&said, runner.setup);
         if let Some(limit) = run_line(alloc, said, size, &mut runner.world, out)? {
             let stop = Stop::Full { limit };
             return Ok(Progress::Stopped { stop });

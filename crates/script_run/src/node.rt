@@ -1,13 +1,14 @@
 ghost use Rattle.std.specs.Prelude.{◌≡◌, ◌++◌, ◌+◌, ◌<◌, ◌≤◌, ◌^◌, true, IfOk, OnOk, Some, length};
 ghost use Rattle.raft_model.specs.Fit.{are_fit};
 ghost use Rattle.run_model.specs.World.{new_node};
-ghost use Rattle.run_model.specs.Run.{answer_line, answers_due, applied, awaits, fed, joined};
+ghost use Rattle.run_model.specs.Run.{answers_due, applied, at_rest, fed, joined, listening, stale_answer};
 ghost use Rattle.host_ids.specs.declared.proposal.TheConstants.{MOST_SESSIONS};
 
-use crate::cell::{Cell, answer_all, answer_line, apply_all};
+use crate::cell::{Cell, answer_all, apply_all, stale_answer};
 use crate::contexts::Contexts;
 use crate::requests::Requests;
 use host_ids::{Entry, Key, NoMemory, Text};
+use raft_core::Note;
 use run_model::Want;
 use script_text::{Line, Tolds};
 use std::alloc::Global;
@@ -50,11 +51,11 @@ impl Node {
         self.cell.applied
     }
 
-    /// The line of a read that is answered now.
-    pub fn answer(&self, key: Key, query: &Text) -> Result<Line, NoMemory>
-        ensures { IfOk result (λ line. line ≡ answer_line self.now.cell key query.now) }
+    /// The line of a query that is answered from what the cell of this host was given.
+    pub fn stale(&self, host: u8, query: Text) -> Result<Line, NoMemory>
+        ensures { IfOk result (λ line. line ≡ stale_answer host query self.now.cell) }
     {
-        answer_line(&self.cell, key, query)
+        stale_answer(&self.cell, host, query)
     }
 
     /// A request joins the open ones.
@@ -64,11 +65,20 @@ impl Node {
         self.requests.join(key, want)
     }
 
-    /// An open read waits until its front is applied.
-    pub fn wait(&mut self, key: Key, front: u64) -> Result<(), NoMemory>
-        ensures { OnOk result (self.new ≡ record self.old { requests = record self.old.requests { waiting = awaits (Some front) key self.old.requests.waiting } }) }
+    /// The reads that the notes of an event confirm wait for their indices, and those whose index is
+    /// reached are answered.
+    pub fn hear(
+        &mut self,
+        contexts: &Contexts,
+        notes: &[Note],
+        out: &mut Tolds,
+    ) -> Result<(), NoMemory>
+        ensures node { OnOk result (self.new ≡ fed contexts.now (listening notes.now self.old) (at_rest (listening notes.now self.old))) }
+        ensures told { OnOk result (out.new ≡ out.old ++ (answers_due contexts.now (listening notes.now self.old) (at_rest (listening notes.now self.old))).told) }
     {
-        self.requests.wait(key, front)
+        self.requests.take_notes(notes)?;
+        let keys = self.requests.due(self.cell.applied)?;
+        answer_all(contexts, &self.cell, &keys, &mut self.requests, out)
     }
 
     /// Gives entries to the cell, ends their requests, and answers the reads whose front is reached.

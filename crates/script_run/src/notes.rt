@@ -1,6 +1,6 @@
 ghost use Rattle.std.specs.Prelude.{◌≡◌, ◌++◌, OnOk};
 ghost use Rattle.std.specs.List.{flat_map};
-ghost use Rattle.run_model.specs.Run.{confirmed_index, drops, is_dropped, kind_of, note_told};
+ghost use Rattle.run_model.specs.Run.{drops, is_dropped, kind_of, note_told};
 
 use crate::cell::tell;
 use host_ids::NoMemory;
@@ -49,18 +49,6 @@ pub fn is_dropped(notes: &[Note]) -> bool
     ensures { result ≡ is_dropped notes.now }
 {
     notes.iter().any(|note| drops(note))
-}
-
-/// The index from which on a read may be answered, where the core notes one.
-pub fn confirmed_index(notes: &[Note]) -> Option<u64>
-    ensures { result ≡ confirmed_index notes.now }
-{
-    for note in notes {
-        if let Note::Confirmed { index, .. } = note {
-            return Some(*index);
-        }
-    }
-    None
 }
 
 /// What an envelope says.

@@ -1,11 +1,12 @@
-ghost use Rattle.std.specs.Prelude.{◌≡◌, [], OnOk, IfOk};
+ghost use Rattle.std.specs.Prelude.{◌≡◌, [], ◌∷◌, OnOk, IfOk};
 ghost use Rattle.std.specs.BTreeMap.{insert_entry};
 ghost use Rattle.raft_model.specs.Group.{key_order};
 ghost use Rattle.run_model.specs.World.{waiting_order};
 ghost use Rattle.script_run.specs.Parts.{is_due};
-ghost use Rattle.run_model.specs.Run.{awaits, due, keys_with, not_due, want_of, without};
+ghost use Rattle.run_model.specs.Run.{confirmed, confirmed_by, due, keys_with, not_due, want_of, without};
 
 use host_ids::{Key, NoMemory};
+use raft_core::Note;
 use run_model::{Waiting, Want};
 use std::alloc::Global;
 use std::collections::{BTreeMap, BTreeSet};
@@ -49,11 +50,41 @@ impl Requests {
         Ok(())
     }
 
-    /// A read waits until its front is applied.
-    pub fn wait(&mut self, key: Key, front: u64) -> Result<(), NoMemory>
-        ensures { OnOk result (self.new ≡ record self.old { waiting = awaits (Some front) key self.old.waiting }) }
+    /// A read that is open and has no index yet waits for this one.
+    fn confirm(&mut self, key: Key, index: u64) -> Result<(), NoMemory>
+        ensures { OnOk result (self.new ≡ confirmed_by (want_of key self.old.wants) key index self.old) }
     {
-        self.waiting.insert(Waiting { front, key })?;
+        let query = match self.wants.get(&key) {
+            Some(Want::Read { query, front: None }) => query.copy()?,
+            _ => return Ok(()),
+        };
+        let front = Some(index);
+        self.wants.insert(key, Want::Read { query, front })?;
+        self.waiting.insert(Waiting { front: index, key })?;
+        Ok(())
+    }
+
+    /// A read that a note confirms waits for its index.
+    #[tactic(auto, unfolding(run_model::specs::Run::confirmed))]
+    fn take_note(&mut self, note: Note) -> Result<(), NoMemory>
+        ensures { OnOk result (self.new ≡ confirmed (note ∷ []) self.old) }
+    {
+        match note {
+            Note::Confirmed { key, index, .. } => self.confirm(key, index),
+            Note::Leader { .. } | Note::Pending { .. } | Note::Idle | Note::Dropped { .. } => Ok(
+                (),
+            ),
+        }
+    }
+
+    /// The reads that the notes of an event confirm wait for their indices.
+    #[tactic(auto, unfolding(run_model::specs::Run::confirmed))]
+    pub fn take_notes(&mut self, notes: &[Note]) -> Result<(), NoMemory>
+        ensures { OnOk result (self.new ≡ confirmed notes.now self.old) }
+    {
+        for note in notes {
+            self.take_note(*note)?;
+        }
         Ok(())
     }
 

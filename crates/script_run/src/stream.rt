@@ -9,7 +9,7 @@ ghost use Rattle.script_run.specs.Reach.{GivenUp};
 use crate::lines::{Progress, Runner, run_whole};
 use fault_io::{IoFault, Sink, Source, put_all};
 use run_model::Stop;
-use script_text::{Buffer, Setup};
+use script_text::Buffer;
 use std::alloc::Global;
 
 /// How a run over a source ended: by its lines, of which `out` isn't put yet, at the end of the
@@ -30,7 +30,6 @@ pub fn run_stream<S: Source, K: Sink>(
     sink: &mut K,
 ) -> Result<Streamed, IoFault>
     requires world { world_of runner.old.world ≡ start }
-    requires setup { runner.old.setup ≡ Setup.Single }
     requires lines { runner.old.lines ≡ 0 }
     requires size { runner.old.size ≡ 0 }
     ensures streamed { IfOk result (λ streamed. HasStreamed (S.left source.old) (S.left source.new) (K.contents sink.old) (K.contents sink.new) streamed (world_of runner.new.world)) }

@@ -12,7 +12,7 @@ use fault_io::{IoFault, Sink, Source, put_all};
 use host_ids::Text;
 use run_law::{runs_are_legal, scripts_end};
 use run_model::Stop;
-use script_text::{Buffer, Setup};
+use script_text::Buffer;
 use std::alloc::Global;
 
 /// What the stop of a run comes to.
@@ -83,7 +83,6 @@ fn run_script<S: Source, K: Sink>(alloc: Global, source: &mut S, sink: &mut K) -
     };
     let mut runner = Runner {
         world,
-        setup: Setup::Single,
         lines: 0,
         size: 0,
     };

@@ -214,6 +214,10 @@ impl World {
                 self.ask_line(host, context, Proposal::Plain { command }, out)?;
                 Ok(None)
             }
+            ScriptLine::Stale { host, query, .. } => {
+                self.stale(host, query, out)?;
+                Ok(None)
+            }
             ScriptLine::Read {
                 host,
                 context,

@@ -32,6 +32,7 @@ is_fit_line (script_lines.Event host event) = is_host_number host
 is_fit_line (script_lines.Deliver group number) = true
 is_fit_line (script_lines.Ask host group context command) = is_host_number host && is_filled command
 is_fit_line (script_lines.Read host group context query) = is_host_number host
+is_fit_line (script_lines.Stale host group query) = is_host_number host
 is_fit_line (script_lines.Register host group context session client) = is_host_number host && nat_le 1 client
 is_fit_line (script_lines.Call host context session command) = is_host_number host && is_filled command
 is_fit_line (script_lines.Again host context session) = is_host_number host

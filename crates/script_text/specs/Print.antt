@@ -79,6 +79,7 @@ line_text context (lines.Ask key group proposal) = codes "ask" · context · dec
 line_text context (lines.AskRead key group query) = codes "ask" · context · decimal group · codes "read" · shown_text query
 line_text context (lines.Ended key group place ending) = ending_text context place ending
 line_text context (lines.Read key group front answer) = codes "read" · context · decimal front · shown_text answer
+line_text context (lines.Stale host group front query answer) = codes "stale" · decimal host · decimal group · decimal front · shown_text answer
 line_text context (lines.Dropped key group) = codes "dropped" · context
 line_text context (lines.Wire group number from to kind term) = codes "wire" · decimal group · decimal number · decimal from · decimal to · kind_text kind · decimal term
 line_text context (lines.Entry group entry) = codes "entry" · decimal group · decimal entry.index · context · proposal_text entry.proposal

@@ -10,8 +10,6 @@ use Rattle.script_text.specs.declared.script.HostEvent.{HostEvent}
 use Rattle.script_text.specs.declared.script.HostEvent.TheVariants as host_events
 use Rattle.script_text.specs.declared.limit.TheConstants.{MOST_APPLIED, MOST_LINE}
 use Rattle.host_ids.specs.declared.proposal.TheConstants.{MOST_SESSIONS}
-use Rattle.script_text.specs.declared.script.Setup.{Setup}
-use Rattle.script_text.specs.declared.script.Setup.TheVariants as setups
 use Rattle.object_model.specs.Words.{words_of, word, begins, is_name, number_of}
 use Rattle.object_model.specs.Command.{command_of, query_of, most_number}
 
@@ -32,9 +30,13 @@ abbrev pub after_space : List ℕ → List ℕ
 after_space [] = []
 after_space (c ∷ cs) = if c == 32 then cs else after_space cs
 
+-- what stands after a line's first three words
+abbrev pub after_three : List ℕ → List ℕ
+after_three line = after_space (after_space (after_space line))
+
 -- what stands after a line's first four words
 abbrev pub after_four : List ℕ → List ℕ
-after_four line = after_space (after_space (after_space (after_space line)))
+after_four line = after_space (after_three line)
 
 -- what stands after a line's first seven words
 abbrev pub after_seven : List ℕ → List ℕ
@@ -110,14 +112,13 @@ group_line words =
 abbrev pub ask_line : ℕ → List (List ℕ) → List ℕ → Option ScriptLine
 ask_line host words text = if_so (is_name (word words 3) 16 && is_some (command_of text)) (script_lines.Ask host 1 (word words 3) text)
 
--- reads are lines while no group of more than one voter was named
-abbrev pub may_read : Setup → Bool
-may_read setups.Single = true
-may_read setups.Several = false
-
 -- `read H 1 CTX QUERY`
-abbrev pub read_request : Setup → ℕ → List (List ℕ) → List ℕ → Option ScriptLine
-read_request setup host words text = if_so (may_read setup && is_name (word words 3) 16 && is_some (query_of text)) (script_lines.Read host 1 (word words 3) text)
+abbrev pub read_request : ℕ → List (List ℕ) → List ℕ → Option ScriptLine
+read_request host words text = if_so (is_name (word words 3) 16 && is_some (query_of text)) (script_lines.Read host 1 (word words 3) text)
+
+-- `stale H 1 QUERY`
+abbrev pub stale_line : ℕ → List ℕ → Option ScriptLine
+stale_line host text = if_so (is_some (query_of text)) (script_lines.Stale host 1 text)
 
 -- a name of a context or of a session
 abbrev pub is_named : List (List ℕ) → ℕ → Bool
@@ -197,13 +198,14 @@ wire_line words = by_number (number_of most_number (word words 2)) (λ number. S
 -- ---- lines by their verbs
 
 -- lines that name a host and the group
-abbrev pub replica_line : Setup → ℕ → List (List ℕ) → List ℕ → Option ScriptLine
-replica_line setup host words line =
+abbrev pub replica_line : ℕ → List (List ℕ) → List ℕ → Option ScriptLine
+replica_line host words line =
     if says words 0 (codes "ask") then ask_line host words (after_four line)
-    else (if says words 0 (codes "read") then read_request setup host words (after_four line)
+    else (if says words 0 (codes "read") then read_request host words (after_four line)
+    else (if says words 0 (codes "stale") then stale_line host (after_three line)
     else (if begins words 6 (codes "register") then register_line host words
     else (if says words 0 (codes "raw") then raw_line host words (after_seven line)
-    else event_line host words)))
+    else event_line host words))))
 
 -- `call`, `again` and `close`, which name a host and a session
 abbrev pub session_line : ℕ → List (List ℕ) → List ℕ → Option ScriptLine
@@ -218,10 +220,10 @@ abbrev pub is_session_verb : List (List ℕ) → Bool
 is_session_verb words = says words 0 (codes "call") || says words 0 (codes "again") || says words 0 (codes "close")
 
 -- lines that name a host first
-abbrev pub line_at : Setup → ℕ → List (List ℕ) → List ℕ → Option ScriptLine
-line_at setup host words line =
+abbrev pub line_at : ℕ → List (List ℕ) → List ℕ → Option ScriptLine
+line_at host words line =
     if is_session_verb words then session_line host words line
-    else (if is_group words 2 then replica_line setup host words line
+    else (if is_group words 2 then replica_line host words line
     else None)
 
 -- lines that name the group alone
@@ -238,50 +240,27 @@ abbrev pub is_wire_verb : List (List ℕ) → Bool
 is_wire_verb words = says words 0 (codes "settle") || says words 0 (codes "lose") || says words 0 (codes "deliver") || says words 0 (codes "wire")
 
 -- a line by its words
-abbrev pub said_in : Setup → List (List ℕ) → List ℕ → Option ScriptLine
-said_in setup words line =
+abbrev pub said_in : List (List ℕ) → List ℕ → Option ScriptLine
+said_in words line =
     if begins words 2 (codes "host") then host_line words
     else (if says words 0 (codes "group") then group_line words
     else (if begins words 2 (codes "completed") then completed_line words
     else (if is_wire_verb words then (if is_group words 1 then wire_lines words else None)
-    else by_number (host_at words 1) (λ host. line_at setup host words line))))
+    else by_number (host_at words 1) (λ host. line_at host words line))))
 
-abbrev pub line_in : Setup → List (List ℕ) → List ℕ → Option ScriptLine
-line_in setup words line = if begins words 1 (codes "end") then Some script_lines.End else said_in setup words line
+abbrev pub line_in : List (List ℕ) → List ℕ → Option ScriptLine
+line_in words line = if begins words 1 (codes "end") then Some script_lines.End else said_in words line
 
 -- an empty line, or one that begins with `#`
 abbrev pub is_skipped : List ℕ → Bool
 is_skipped [] = true
 is_skipped (c ∷ cs) = c == 35
 
--- what a line says where these groups were named before, if it is one: a line has at most 4,096 bytes
-unfoldable pub read_line : Setup → List ℕ → Option ScriptLine
-read_line setup line =
+-- what a line says, if it is one: a line has at most 4,096 bytes
+unfoldable pub read_line : List ℕ → Option ScriptLine
+read_line line =
     if nat_lt MOST_LINE (length line) then None
-    else (if is_skipped line then Some script_lines.Skipped else line_in setup (words_of line) line)
-
-abbrev pub named_group : List ℕ → Setup → Setup
-named_group roster setup = if nat_lt 1 (length roster) then setups.Several else setup
-
--- which groups were named after a line, also one that is refused
-abbrev pub setup_after : ScriptLine → Setup → Setup
-setup_after script_lines.Skipped setup = setup
-setup_after script_lines.End setup = setup
-setup_after (script_lines.Host host) setup = setup
-setup_after (script_lines.Group group kind roster limit) setup = named_group roster setup
-setup_after (script_lines.Event host event) setup = setup
-setup_after (script_lines.Deliver group number) setup = setup
-setup_after (script_lines.Ask host group context command) setup = setup
-setup_after (script_lines.Read host group context query) setup = setup
-setup_after (script_lines.Register host group context session client) setup = setup
-setup_after (script_lines.Call host context session command) setup = setup
-setup_after (script_lines.Again host context session) setup = setup
-setup_after (script_lines.Completed session) setup = setup
-setup_after (script_lines.Close host context session) setup = setup
-setup_after (script_lines.Raw host group context client series responded command) setup = setup
-setup_after (script_lines.Settle group) setup = setup
-setup_after (script_lines.Lose group) setup = setup
-setup_after (script_lines.Wire group number) setup = setup
+    else (if is_skipped line then Some script_lines.Skipped else line_in (words_of line) line)
 
 abbrev pub is_end : ScriptLine → Bool
 is_end script_lines.Skipped = false
@@ -292,6 +271,7 @@ is_end (script_lines.Event host event) = false
 is_end (script_lines.Deliver group number) = false
 is_end (script_lines.Ask host group context command) = false
 is_end (script_lines.Read host group context query) = false
+is_end (script_lines.Stale host group query) = false
 is_end (script_lines.Register host group context session client) = false
 is_end (script_lines.Call host context session command) = false
 is_end (script_lines.Again host context session) = false
@@ -312,12 +292,12 @@ abbrev pub said_well : Option ScriptLine → (ScriptLine → Bool) → Bool
 said_well None more = false
 said_well (Some said) more = is_end said || more said
 
--- the whole lines up to `end` are lines of the grammar, each where it may stand
-abbrev pub are_lines : Setup → List (List ℕ) → Bool
-are_lines setup [] = false
-are_lines setup (line ∷ []) = false
-are_lines setup (line ∷ next ∷ more) = said_well (read_line setup line) (λ said. are_lines (setup_after said setup) (next ∷ more))
+-- the whole lines up to `end` are lines of the grammar
+abbrev pub are_lines : List (List ℕ) → Bool
+are_lines [] = false
+are_lines (line ∷ []) = false
+are_lines (line ∷ next ∷ more) = said_well (read_line line) (λ said. are_lines (next ∷ more))
 
 -- a script of the grammar, which comes to its `end`
 abbrev pub is_script : List ℕ → Bool
-is_script text = are_lines setups.Single (parts_of text)
+is_script text = are_lines (parts_of text)

@@ -5,14 +5,14 @@ ghost use Rattle.std.specs.List.{list_all, slice_split};
 ghost use Rattle.std.specs.Option.{option_map};
 ghost use Rattle.object_model.specs.Words.{word, is_name, number_of};
 ghost use Rattle.script_text.specs.Fit.{is_filled, is_fit_limit, is_fit_line, is_fit_roster};
-ghost use Rattle.script_text.specs.Script.{is_host_number, again_line, ascending, by_number, ask_line, after_four, after_seven, after_space, call_line, close_line, completed_line, deliver_line, event_by, event_line, event_of, group_by, group_line, host_at, host_line, is_group, is_named, is_session_verb, is_skipped, is_wire_verb, line_at, line_in, may_read, named_group, next_host, positive, raw_by, raw_line, read_line, read_request, register_line, replica_line, roster_of, said_in, session_line, setup_after, wire_line, wire_lines};
+ghost use Rattle.script_text.specs.Script.{is_host_number, again_line, ascending, by_number, ask_line, after_four, after_seven, after_space, after_three, call_line, close_line, completed_line, deliver_line, event_by, event_line, event_of, group_by, group_line, host_at, host_line, is_group, is_named, is_session_verb, is_skipped, is_wire_verb, line_at, line_in, next_host, positive, raw_by, raw_line, read_line, read_request, register_line, replica_line, roster_of, said_in, session_line, stale_line, wire_line, wire_lines};
 ghost use Rattle.host_ids.specs.declared.proposal.TheConstants.{MOST_SERIES};
 ghost use Rattle.script_text.specs.declared.limit.TheConstants.{MOST_APPLIED};
 ghost use Rattle.host_ids.specs.declared.proposal.TheConstants.{MOST_SESSIONS};
 
 use crate::fault::LineFault;
 use crate::limit::{MOST_APPLIED, MOST_LINE};
-use crate::script::{HostEvent, ScriptLine, Setup};
+use crate::script::{HostEvent, ScriptLine};
 use host_ids::{Kind, MOST_SERIES, MOST_SESSIONS, NoMemory, Text};
 use object_model::{Words, command_of, is_name, number_of, query_of};
 use std::alloc::Global;
@@ -35,10 +35,16 @@ fn after_space(text: &[u8]) -> &[u8]
     b""
 }
 
+fn after_three(line: &[u8]) -> &[u8]
+    ensures { result.now ≡ after_three line.now }
+{
+    after_space(after_space(after_space(line)))
+}
+
 fn after_four(line: &[u8]) -> &[u8]
     ensures { result.now ≡ after_four line.now }
 {
-    after_space(after_space(after_space(after_space(line))))
+    after_space(after_three(line))
 }
 
 fn after_seven(line: &[u8]) -> &[u8]
@@ -217,26 +223,16 @@ fn ask_line(
     }))
 }
 
-fn may_read(setup: Setup) -> bool
-    ensures { result ≡ may_read setup }
-{
-    matches!(setup, Setup::Single)
-}
-
 fn read_request(
     alloc: Global,
-    setup: Setup,
     host: u8,
     words: &Words<'_>,
     text: &[u8],
 ) -> Result<Option<ScriptLine>, NoMemory>
     requires { is_host_number host ≡ true }
-    ensures line { IfOk result (λ line. line ≡ read_request setup host words.now text.now) }
+    ensures line { IfOk result (λ line. line ≡ read_request host words.now text.now) }
     ensures fit { IfOk result (λ line. IfSome line (λ said. is_fit_line said ≡ true)) }
 {
-    if !may_read(setup) {
-        return Ok(None);
-    }
     if !is_name(words.word(3), 16) {
         return Ok(None);
     }
@@ -247,6 +243,21 @@ fn read_request(
         host,
         group: 1,
         context: Text::new(alloc, words.word(3))?,
+        query: Text::new(alloc, text)?,
+    }))
+}
+
+fn stale_line(alloc: Global, host: u8, text: &[u8]) -> Result<Option<ScriptLine>, NoMemory>
+    requires { is_host_number host ≡ true }
+    ensures line { IfOk result (λ line. line ≡ stale_line host text.now) }
+    ensures fit { IfOk result (λ line. IfSome line (λ said. is_fit_line said ≡ true)) }
+{
+    if query_of(alloc, text)?.is_none() {
+        return Ok(None);
+    }
+    Ok(Some(ScriptLine::Stale {
+        host,
+        group: 1,
         query: Text::new(alloc, text)?,
     }))
 }
@@ -512,20 +523,22 @@ fn wire_line(words: &Words<'_>) -> Option<ScriptLine>
 
 fn replica_line(
     alloc: Global,
-    setup: Setup,
     host: u8,
     words: &Words<'_>,
     line: &[u8],
 ) -> Result<Option<ScriptLine>, NoMemory>
     requires { is_host_number host ≡ true }
-    ensures line { IfOk result (λ said. said ≡ replica_line setup host words.now line.now) }
+    ensures line { IfOk result (λ said. said ≡ replica_line host words.now line.now) }
     ensures fit { IfOk result (λ line. IfSome line (λ said. is_fit_line said ≡ true)) }
 {
     if words.is(0, b"ask") {
         return ask_line(alloc, host, words, after_four(line));
     }
     if words.is(0, b"read") {
-        return read_request(alloc, setup, host, words, after_four(line));
+        return read_request(alloc, host, words, after_four(line));
+    }
+    if words.is(0, b"stale") {
+        return stale_line(alloc, host, after_three(line));
     }
     if words.begins(6, b"register") {
         return register_line(alloc, host, words);
@@ -566,20 +579,19 @@ fn is_session_verb(words: &Words<'_>) -> bool
 
 fn line_at(
     alloc: Global,
-    setup: Setup,
     host: u8,
     words: &Words<'_>,
     line: &[u8],
 ) -> Result<Option<ScriptLine>, NoMemory>
     requires { is_host_number host ≡ true }
-    ensures line { IfOk result (λ said. said ≡ line_at setup host words.now line.now) }
+    ensures line { IfOk result (λ said. said ≡ line_at host words.now line.now) }
     ensures fit { IfOk result (λ line. IfSome line (λ said. is_fit_line said ≡ true)) }
 {
     if is_session_verb(words) {
         return session_line(alloc, host, words, line);
     }
     if is_group(words, 2) {
-        return replica_line(alloc, setup, host, words, line);
+        return replica_line(alloc, host, words, line);
     }
     Ok(None)
 }
@@ -615,28 +627,22 @@ fn is_wire_verb(words: &Words<'_>) -> bool
 /// A line of a host, if one is named.
 fn line_of(
     alloc: Global,
-    setup: Setup,
     host: Option<u8>,
     words: &Words<'_>,
     line: &[u8],
 ) -> Result<Option<ScriptLine>, NoMemory>
     requires { IfSome host (λ h. is_host_number h ≡ true) }
-    ensures line { IfOk result (λ said. said ≡ by_number host (λ h. line_at setup h words.now line.now)) }
+    ensures line { IfOk result (λ said. said ≡ by_number host (λ h. line_at h words.now line.now)) }
     ensures fit { IfOk result (λ line. IfSome line (λ said. is_fit_line said ≡ true)) }
 {
     match host {
         None => Ok(None),
-        Some(host) => line_at(alloc, setup, host, words, line),
+        Some(host) => line_at(alloc, host, words, line),
     }
 }
 
-fn said_in(
-    alloc: Global,
-    setup: Setup,
-    words: &Words<'_>,
-    line: &[u8],
-) -> Result<Option<ScriptLine>, NoMemory>
-    ensures line { IfOk result (λ said. said ≡ said_in setup words.now line.now) }
+fn said_in(alloc: Global, words: &Words<'_>, line: &[u8]) -> Result<Option<ScriptLine>, NoMemory>
+    ensures line { IfOk result (λ said. said ≡ said_in words.now line.now) }
     ensures fit { IfOk result (λ line. IfSome line (λ said. is_fit_line said ≡ true)) }
 {
     if words.begins(2, b"host") {
@@ -654,22 +660,17 @@ fn said_in(
         }
         return Ok(wire_lines(words));
     }
-    line_of(alloc, setup, host_at(words, 1), words, line)
+    line_of(alloc, host_at(words, 1), words, line)
 }
 
-fn line_in(
-    alloc: Global,
-    setup: Setup,
-    words: &Words<'_>,
-    line: &[u8],
-) -> Result<Option<ScriptLine>, NoMemory>
-    ensures line { IfOk result (λ said. said ≡ line_in setup words.now line.now) }
+fn line_in(alloc: Global, words: &Words<'_>, line: &[u8]) -> Result<Option<ScriptLine>, NoMemory>
+    ensures line { IfOk result (λ said. said ≡ line_in words.now line.now) }
     ensures fit { IfOk result (λ line. IfSome line (λ said. is_fit_line said ≡ true)) }
 {
     if words.begins(1, b"end") {
         return Ok(Some(ScriptLine::End));
     }
-    said_in(alloc, setup, words, line)
+    said_in(alloc, words, line)
 }
 
 /// Whether a line is empty or a comment.
@@ -684,8 +685,8 @@ fn is_skipped(line: &[u8]) -> bool
 
 /// What a line says, if it is one.
 #[tactic(auto, unfolding(crate::specs::Script::read_line))]
-fn line_said(alloc: Global, setup: Setup, line: &[u8]) -> Result<Option<ScriptLine>, NoMemory>
-    ensures line { IfOk result (λ said. said ≡ read_line setup line.now) }
+fn line_said(alloc: Global, line: &[u8]) -> Result<Option<ScriptLine>, NoMemory>
+    ensures line { IfOk result (λ said. said ≡ read_line line.now) }
     ensures fit { IfOk result (λ line. IfSome line (λ said. is_fit_line said ≡ true)) }
 {
     if line.len() > MOST_LINE {
@@ -695,60 +696,21 @@ fn line_said(alloc: Global, setup: Setup, line: &[u8]) -> Result<Option<ScriptLi
         return Ok(Some(ScriptLine::Skipped));
     }
     let words = Words::of(alloc, line)?;
-    line_in(alloc, setup, &words, line)
+    line_in(alloc, &words, line)
 }
 
-/// Reads a line of a script, without its line feed, where these groups were named before.
+/// Reads a line of a script, without its line feed.
 ///
-/// `BadLine` comes exactly where the bytes are no line there, and carries the number that is given;
+/// `BadLine` comes exactly where the bytes are no line, and carries the number that is given;
 /// they are none where they have more than 4,096 bytes. A comment may hold any bytes. The other error is
 /// `NoMemory`. Source: this project's own.
-pub fn read_line(
-    alloc: Global,
-    setup: Setup,
-    line: &[u8],
-    number: u64,
-) -> Result<ScriptLine, LineFault>
-    ensures line { IfOk result (λ said. read_line setup line.now ≡ Some said) }
+pub fn read_line(alloc: Global, line: &[u8], number: u64) -> Result<ScriptLine, LineFault>
+    ensures line { IfOk result (λ said. read_line line.now ≡ Some said) }
     ensures fit { IfOk result (λ said. is_fit_line said ≡ true) }
-    ensures bad { (at : ℕ) → IsErrOf result (BadLine at) → (at ≡ number) × (read_line setup line.now ≡ None) }
+    ensures bad { (at : ℕ) → IsErrOf result (BadLine at) → (at ≡ number) × (read_line line.now ≡ None) }
 {
-    match line_said(alloc, setup, line)? {
+    match line_said(alloc, line)? {
         Some(said) => Ok(said),
         None => Err(LineFault::BadLine { line: number }),
     }
-}
-
-/// Which groups were named after a line, also one that is refused. Source: this project's own.
-pub fn setup_after(line: &ScriptLine, setup: Setup) -> Setup
-    ensures { result ≡ setup_after line.now setup }
-{
-    match line {
-        ScriptLine::Group { roster, .. } => named_group(roster.bytes(), setup),
-        ScriptLine::Skipped
-        | ScriptLine::End
-        | ScriptLine::Host { .. }
-        | ScriptLine::Event { .. }
-        | ScriptLine::Deliver { .. }
-        | ScriptLine::Ask { .. }
-        | ScriptLine::Read { .. }
-        | ScriptLine::Register { .. }
-        | ScriptLine::Call { .. }
-        | ScriptLine::Again { .. }
-        | ScriptLine::Completed { .. }
-        | ScriptLine::Close { .. }
-        | ScriptLine::Raw { .. }
-        | ScriptLine::Settle { .. }
-        | ScriptLine::Lose { .. }
-        | ScriptLine::Wire { .. } => setup,
-    }
-}
-
-fn named_group(roster: &[u8], setup: Setup) -> Setup
-    ensures { result ≡ named_group roster.now setup }
-{
-    if roster.len() > 1 {
-        return Setup::Several;
-    }
-    setup
 }

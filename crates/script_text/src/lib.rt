@@ -15,11 +15,11 @@ mod told;
 
 pub use buffer::Buffer;
 pub use fault::LineFault;
-pub use grammar::{read_line, setup_after};
+pub use grammar::read_line;
 pub use kind::EnvelopeKind;
 pub use limit::{Limit, MOST_APPLIED, MOST_ENTRIES, MOST_ENVELOPES, MOST_LINE, MOST_SCRIPT};
 pub use line::Line;
 pub use print::{print_line, push_line};
 pub use refusal::Refusal;
-pub use script::{HostEvent, ScriptLine, Setup};
+pub use script::{HostEvent, ScriptLine};
 pub use told::{Told, Tolds};

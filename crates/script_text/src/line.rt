@@ -72,6 +72,19 @@ pub enum Line {
         /// The answer.
         answer: Text,
     },
+    /// A query is answered from what a host has applied.
+    Stale {
+        /// The host that was asked.
+        host: u8,
+        /// The group.
+        group: u8,
+        /// The number of places that the host had applied.
+        front: u64,
+        /// The query.
+        query: Text,
+        /// The answer.
+        answer: Text,
+    },
     /// A request ends at once, since no leader is known that could take it.
     Dropped {
         /// The request.

@@ -151,6 +151,17 @@ fn print_text(out: &mut Buffer, context: &Text, line: &Line) -> Result<(), NoMem
             print_context(out, b"read", context, *front)?;
             out.payload(answer.bytes())
         }
+        Line::Stale {
+            host,
+            group,
+            front,
+            answer,
+            ..
+        } => {
+            print_numbers(out, b"stale", u64::from(*host), u64::from(*group))?;
+            out.number(*front)?;
+            out.payload(answer.bytes())
+        }
         Line::Dropped { .. } => {
             out.text(b"dropped")?;
             out.word(context.bytes())

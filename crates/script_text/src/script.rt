@@ -32,16 +32,6 @@ pub enum HostEvent {
     },
 }
 
-/// Which groups a script has named so far: a read is a line only while none of them has more than one
-/// voter. Source: this project's own.
-#[derive(Clone, Copy, Debug, PartialEq, Eq)]
-pub enum Setup {
-    /// Groups of one voter, or none.
-    Single,
-    /// A group of more than one voter.
-    Several,
-}
-
 /// A line of a script. Hosts are 1 to 9, groups 1 to 64. Source: this project's own.
 #[derive(Debug, Drop)]
 pub enum ScriptLine {
@@ -98,6 +88,15 @@ pub enum ScriptLine {
         group: u8,
         /// The request's context.
         context: Text,
+        /// The query.
+        query: Text,
+    },
+    /// Answers a query from what a host has applied, which may lag.
+    Stale {
+        /// The host that is asked.
+        host: u8,
+        /// The group.
+        group: u8,
         /// The query.
         query: Text,
     },

@@ -41,7 +41,6 @@ pub struct Run {
     group: Option<Group>,
     contexts: HashSet<Name>,
     sessions: HashMap<Name, Client>,
-    reads_are_bad: bool,
 }
 
 /// Prints a line. Writing to a vector doesn't fail.
@@ -104,11 +103,6 @@ impl Run {
     /// line comes.
     fn line(&mut self, bytes: &[u8]) -> Result<(), Stop> {
         let line = Line::parse(bytes).ok_or(Stop::BadLine)?;
-        match &line {
-            Line::Read { .. } if self.reads_are_bad => return Err(Stop::BadLine),
-            Line::Group { voters, .. } if voters.len() > 1 => self.reads_are_bad = true,
-            _ => {}
-        }
         self.lines += 1;
         self.bytes += bytes.len() + 1;
         match self.refusal(&line) {
@@ -293,6 +287,11 @@ impl Run {
                 context,
                 query,
             } => self.read(host, context, query),
+            Line::Stale { host, query } => {
+                let machine = self.group().machine(host);
+                let (applied, answer) = (machine.applied(), machine.lookup(&query));
+                print_line!(self.printed, "stale {host} 1 {applied} {answer}");
+            }
             Line::Settle => return self.settle(),
             Line::Lose => {
                 let newest = self.group().newest();

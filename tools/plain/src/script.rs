@@ -108,6 +108,10 @@ pub enum Line {
         context: Name,
         query: Query,
     },
+    Stale {
+        host: u8,
+        query: Query,
+    },
     Settle,
     Lose,
     Wire {
@@ -174,6 +178,10 @@ impl Line {
             },
             ["completed", session] => Line::Completed {
                 session: Name::parse(session)?,
+            },
+            ["stale", host, "1", ref query @ ..] => Line::Stale {
+                host: as_host(host)?,
+                query: Query::parse(query)?,
             },
             [verb, host, ref rest @ ..] => return Line::of_request(verb, as_host(host)?, rest),
             _ => return None,
@@ -253,7 +261,8 @@ impl Line {
             | Line::Again { host, .. }
             | Line::Close { host, .. }
             | Line::Raw { host, .. }
-            | Line::Read { host, .. } => Some(host),
+            | Line::Read { host, .. }
+            | Line::Stale { host, .. } => Some(host),
             _ => None,
         }
     }

@@ -7,7 +7,7 @@ use Rattle.host_ids.specs.declared.proposal.Proposal.{Proposal}
 use Rattle.object_model.specs.declared.mark.What.TheVariants as whats
 use Rattle.object_model.specs.declared.mark.Ending.{Ending}
 use Rattle.object_model.specs.Object.{answer}
-use Rattle.object_model.specs.Sequence.{state, verdict, effect_of, ending_by}
+use Rattle.object_model.specs.Sequence.{answer_at, state, verdict, effect_of, ending_by}
 use Rattle.object_model.specs.Desk.{Desk, EndMove, ReadMove}
 use Rattle.run_model.specs.declared.told.Want.{Want}
 use Rattle.run_model.specs.World.{Cell}
@@ -45,15 +45,18 @@ pub cell_given : (contexts : List (List (List ℕ))) (key : Key) (c : Cell) (ws 
 cell_given contexts key c ws None = refl
 cell_given contexts key c ws (Some ending) = refl
 
+-- an answer from what is given is the answer at that front of the list
+pub answer_stands : (limit : ℕ) (contexts : List (List (List ℕ))) (d : Desk) (front back : List Entry) (c : Cell) (query : List ℕ) → d.decided ≡ map (placed contexts) (front ++ back) → Fed limit front c
+    → (c.applied ≤ length d.decided) × (answer c.pairs query ≡ answer_at limit d.decided c.applied query)
+answer_stands limit contexts d front back c query list fed = (
+  rw (list, length-map, length-append) (omega (arith, fed.count)),
+  rw (list, fed.count, past_front, fed_object limit front c fed) refl,
+)
+
 -- a read is answered after what is given
 pub answer_move : (limit : ℕ) (contexts : List (List (List ℕ))) (d e : Desk) (front back : List Entry) (c : Cell) (context query : List ℕ) (since : ℕ)
     → d.decided ≡ map (placed contexts) (front ++ back) → Fed limit front c → since ≤ c.applied
     → EndMove d context (whats.Queries query) since e → ReadMove limit d context c.applied (answer c.pairs query) e
-answer_move limit contexts d e front back c context query since list fed late ends = record {
-  query = query;
-  since = since;
-  late = late;
-  within = rw (list, length-map, length-append) (omega (arith, fed.count));
-  gives = rw (list, fed.count, past_front, fed_object limit front c fed) refl;
-  ends = ends;
-}
+answer_move limit contexts d e front back c context query since list fed late ends =
+    let stands = answer_stands limit contexts d front back c query list fed in
+    record { query = query; since = since; late = late; within = stands.0; gives = stands.1; ends = ends }

@@ -5,6 +5,8 @@ use Rattle.std.specs.List.{AllByRecursion}
 use Rattle.std.proofs.lemmas.Bool.{cases_lt}
 use Rattle.std.proofs.lemmas.List.{length-take, drop-take, take-take}
 use Rattle.host_ids.specs.declared.entry.Entry.{Entry}
+use Rattle.object_model.specs.Object.{answer}
+use Rattle.object_model.specs.Sequence.{answer_at}
 use Rattle.object_model.specs.Desk.{Request, Desk, Moves, MovesJoin}
 use Rattle.run_model.specs.World.{Node, new_node}
 use Rattle.host_ids.specs.declared.proposal.TheConstants.{MOST_SESSIONS}
@@ -16,10 +18,10 @@ use Rattle.run_law.proofs.Basics.Tables.{keys_all, due_all, not_due_all}
 use Rattle.run_law.proofs.Requests.Serials.{Waits, Reading, reading_later}
 use Rattle.run_law.proofs.Cells.Judging.{Follows}
 use Rattle.run_law.proofs.Basics.Moves.{marks_of-append}
-use Rattle.run_law.proofs.Cells.Standing.{Fed}
-use Rattle.run_law.proofs.Requests.Book.{Book, asked_at, Named, opens_before, opens_beyond, opens_around, contexts_there}
+use Rattle.run_law.proofs.Cells.Standing.{Fed, answer_stands}
+use Rattle.run_law.proofs.Requests.Book.{Book, asked_at, Named, requests_in, opens_before, opens_beyond, opens_around, contexts_there}
 use Rattle.run_law.proofs.Desks.Fits.{NodeFits, at_host, Fits, set_fits}
-use Rattle.run_law.proofs.Desks.Endings.{with_open, Serves, all_given, all_answered}
+use Rattle.run_law.proofs.Desks.Endings.{with_open, Serves, all_given, all_answered, applied_ordered, answered_ordered}
 
 -- what is given of the decided list
 pub fed_list : (u limit : ℕ) (mine : List Request) (decided : List Entry) (n : Node) → NodeFits u limit mine decided n → Fed limit (take n.cell.applied decided) n.cell
@@ -33,20 +35,24 @@ fed_list u limit mine decided n f = record {
 abbrev pub given : ℕ → List Entry → List (List (List ℕ)) → Node → Applied
 given k decided contexts n = applied contexts (take k (drop n.cell.applied decided)) n.cell n.requests.wants
 
--- a desk to which the lines of an apply move, and which fits the nodes with the host's node after the apply
-pub record Feeds (h limit : ℕ) (book : Book) (decided : List Entry) (nodes : List Node) (contexts : List (List (List ℕ))) (d : Desk) (a : Applied) : Type 0 where
-  pub desk : Desk
-  pub fits : Fits limit book decided (slice_set nodes h (fed contexts (at_host nodes h) a)) contexts desk
-  pub moves : Moves limit d (marks_of 1 (a.told ++ (answers_due contexts (at_host nodes h) a).told)) desk
+-- a host's node that fits with the open requests that the host has
+pub record IsNext (h limit : ℕ) (book : Book) (decided : List Entry) (nodes : List Node) (node : Node) : Type 0 where
+  pub fits : NodeFits h limit (asked_at book h) decided node
+  pub same : requests_in book node.requests.wants ≡ requests_in book (at_host nodes h).requests.wants
 
--- some entries after what is applied, and no more than are decided
-pub feeds : (laws : Follows) (h limit k : ℕ) (book : Book) (decided : List Entry) (nodes : List Node) (contexts : List (List (List ℕ))) (d : Desk) → MovesJoin → h < length nodes
-    → Fits limit book decided nodes contexts d
-    → Feeds h limit book decided nodes contexts d (given k decided contexts (at_host nodes h))
-feeds laws h limit k book decided nodes contexts d join room f =
-    let node = at_host nodes h in
+-- a desk to which the lines of an apply at a host's node move, and which fits the nodes with the node after the apply
+pub record Feeds (h limit : ℕ) (book : Book) (decided : List Entry) (nodes : List Node) (contexts : List (List (List ℕ))) (d : Desk) (node : Node) (a : Applied) : Type 0 where
+  pub desk : Desk
+  pub fits : Fits limit book decided (slice_set nodes h (fed contexts node a)) contexts desk
+  pub moves : Moves limit d (marks_of 1 (a.told ++ (answers_due contexts node a).told)) desk
+
+-- some entries after what is applied, and no more than are decided, are given to a host's node with the open requests that the host has
+pub feeds : (laws : Follows) (h limit k : ℕ) (book : Book) (decided : List Entry) (nodes : List Node) (contexts : List (List (List ℕ))) (d : Desk) (node : Node) → MovesJoin → h < length nodes
+    → IsNext h limit book decided nodes node → Fits limit book decided nodes contexts d
+    → Feeds h limit book decided nodes contexts d node (given k decided contexts node)
+feeds laws h limit k book decided nodes contexts d node join room next f =
     let n = node.cell.applied in
-    let fits = f.nodes h room in
+    let fits = next.fits in
     let mine = asked_at book h in
     let before = opens_before book h nodes in
     let beyond = opens_beyond book h nodes in
@@ -58,7 +64,7 @@ feeds laws h limit k book decided nodes contexts d join room f =
       list = f.decided ∙ ap (λ (l : List Entry). map (placed contexts) l) whole;
       contexts_are = contexts_there book contexts h f.contexts;
       fed = fed_list h limit mine decided node fits;
-      open_ones = f.open_ones ∙ opens_around book h nodes (new_node MOST_SESSIONS) room;
+      open_ones = f.open_ones ∙ opens_around book h nodes (new_node MOST_SESSIONS) room ∙ ap (λ (l : List Request). before ++ (l ++ beyond)) (sym next.same);
       wanted = fits.wants;
     } in
     let named : AllByRecursion (Named book) es = all_take (Named book) k (drop n decided) (all_drop (Named book) n decided f.named) in
@@ -77,6 +83,7 @@ feeds laws h limit k book decided nodes contexts d join room f =
     let d2 = with_open d book before beyond after.wants in
     let becomes : NodeFits h limit mine decided (fed contexts node first) = record {
       wants = q.1;
+      ordered = answered_ordered h book before beyond contexts first.cell keys first.wants (applied_ordered h book before beyond contexts es node.cell node.requests.wants fits.ordered);
       waiting = not_due_all (Waits h mine) m node.requests.waiting fits.waiting;
       applied = omega (arith, count, long);
       limit_is = g.serves.fed.limit_is;
@@ -87,6 +94,18 @@ feeds laws h limit k book decided nodes contexts d join room f =
       fits = set_fits h limit (fed contexts node first) book decided nodes contexts d room becomes f;
       moves = rw marks_of-append (join limit d (marks_of 1 first.told) (marks_of 1 after.told) d1 d2 g.moves q.0);
     }
+
+-- ---- stale answers
+
+-- an answer from what a host has applied is the answer at that front of the list
+pub stale_stands : (limit h : ℕ) (book : Book) (decided : List Entry) (nodes : List Node) (contexts : List (List (List ℕ))) (d : Desk) (query : List ℕ) → h < length nodes
+    → Fits limit book decided nodes contexts d
+    → ((at_host nodes h).cell.applied ≤ length d.decided) × (answer (at_host nodes h).cell.pairs query ≡ answer_at limit d.decided (at_host nodes h).cell.applied query)
+stale_stands limit h book decided nodes contexts d query room f =
+    let node = at_host nodes h in
+    let n = node.cell.applied in
+    let list : d.decided ≡ map (placed contexts) (take n decided ++ drop n decided) = f.decided ∙ ap (λ (l : List Entry). map (placed contexts) l) (sym (take-append-drop n decided)) in
+    answer_stands limit contexts d (take n decided) (drop n decided) node.cell query list (fed_list h limit (asked_at book h) decided node (f.nodes h room))
 
 -- ---- what a replica's log has of the list
 

@@ -2,6 +2,7 @@
 use Rattle.std.proofs.Common.{◌≡◌, ℕ, ◌+◌, ◌-◌, List, [], ◌∷◌, ◌++◌, Option, Some, None, length, map, refl, sym, ap, ◌∙◌, subst, inl, inr, append_assoc, arith}
 use Rattle.std.specs.Prelude.{slice_get}
 use Rattle.std.specs.List.{AllByRecursion}
+use Rattle.std.specs.BTreeMap.{is_at}
 use Rattle.std.proofs.lemmas.List.{append-nil, map-append, length-map}
 use Rattle.std.proofs.lemmas.Option.{none-some}
 use Rattle.host_ids.specs.declared.entry.Key.{Key}
@@ -16,15 +17,16 @@ use Rattle.object_model.specs.Sequence.{history, proposals_of}
 use Rattle.object_model.specs.Desk.{Request, Desk, Moves, EndMove, PlaceMove, MovesJoin}
 use Rattle.run_model.specs.declared.told.Want.{Want}
 use Rattle.run_model.specs.declared.told.Want.TheVariants as wants
+use Rattle.raft_model.specs.Group.{key_order}
 use Rattle.script_text.specs.declared.line.Line.TheVariants as lines
 use Rattle.run_model.specs.World.{Cell, contexts_at}
 use Rattle.run_model.specs.Run
 use Rattle.run_model.specs.Run.{context_at, Applied, applied, applied_by, answered, given, ending_of, want_of, without}
 use Rattle.run_model.specs.Marks.{marks_of}
 use Rattle.run_law.specs.Lawful.{placed}
-use Rattle.run_law.proofs.Basics.Lists.{all_append, all_left, all_right, get_after}
-use Rattle.run_law.proofs.Basics.Tables.{Taken, find_taken, miss_taken}
-use Rattle.run_law.proofs.Requests.Serials.{contexts_of, request_at, Within, IsSort, Wanted, IsWanted, Reading, request_is, request_alike}
+use Rattle.run_law.proofs.Basics.Lists.{get_after}
+use Rattle.run_law.proofs.Basics.Tables.{Taken, find_taken, found_has, miss_taken, remove_each, AreOrdered, ordered_left}
+use Rattle.run_law.proofs.Requests.Serials.{contexts_of, request_at, Within, IsSort, Wanted, Reading, request_is}
 use Rattle.run_law.proofs.Cells.Judging.{Follows}
 use Rattle.run_law.proofs.Cells.History.{past, past_front}
 use Rattle.run_law.proofs.Basics.Moves.{same_moves, one_moves, marks_of-append}
@@ -63,10 +65,8 @@ module _ (me : ℕ) (book : Book) (before beyond : List Request) where
   -- ---- an open request ends
 
   -- a stored key's request, by its host
-  stored_is : (key stored : Key) → key.serial ≡ stored.serial → key.host ≡ me → key.host ≡ stored.host → request_in book stored ≡ request_at mine key
-  stored_is key stored s m h =
-      let k : request_in book stored ≡ request_at mine stored = ap (λ (u : ℕ). request_at (asked_at book u) stored) (sym h ∙ m) in
-      k ∙ request_alike mine stored key (sym s)
+  stored_is : (key stored : Key) → key ≡ stored → key.host ≡ me → request_in book stored ≡ request_at mine key
+  stored_is key stored s m = ap (λ (k : Key). request_in book k) (sym s) ∙ ap (λ (u : ℕ). request_at (asked_at book u) key) m
 
   -- the request of a key that the table holds leaves the open ones
   end_move : (contexts : List (List (List ℕ))) (d : Desk) (key : Key) (what : What) (want : Want) (ws rest : List (Key × Want)) → d.open_ones ≡ before ++ (requests_in book ws ++ beyond)
@@ -77,7 +77,7 @@ module _ (me : ℕ) (book : Book) (before beyond : List Request) where
       let back = requests_in book t.back in
       let split : requests_in book ws ≡ front ++ request_in book t.stored ∷ back = rw (t.whole, map-append) refl in
       let left : requests_in book rest ≡ front ++ back = rw (t.rest, map-append) refl in
-      let is = stored_is key t.stored t.same k.host t.host ∙ request_is me contexts mine key what e k q in
+      let is = stored_is key t.stored t.same k.host ∙ request_is me contexts mine key what e k q in
       record {
         others = before ++ (requests_in book rest ++ beyond);
         was = record {
@@ -90,24 +90,6 @@ module _ (me : ℕ) (book : Book) (before beyond : List Request) where
         becomes = refl;
       }
 
-  -- what is left of a table is wanted as before
-  kept_wanted : (key : Key) (want : Want) (ws rest : List (Key × Want)) → Taken key want ws rest → AllByRecursion (Wanted me mine) ws → AllByRecursion (Wanted me mine) rest
-  kept_wanted key want ws rest t p =
-      let q : AllByRecursion (Wanted me mine) (t.front ++ (t.stored, want) ∷ t.back) = rw (← t.whole) p in
-      rw t.rest (all_append (Wanted me mine) t.front t.back (all_left (Wanted me mine) t.front _ q) (all_right (Wanted me mine) t.front _ q).1)
-
-  -- what the table holds under a key is wanted of the key's request, and the key is of this host
-  taken_wanted : (key : Key) (want : Want) (ws rest : List (Key × Want)) → Taken key want ws rest → AllByRecursion (Wanted me mine) ws → IsWanted (request_at mine key).what want × (key.host ≡ me)
-  taken_wanted key want ws rest t p =
-      let q : AllByRecursion (Wanted me mine) (t.front ++ (t.stored, want) ∷ t.back) = rw (← t.whole) p in
-      let w = (all_right (Wanted me mine) t.front _ q).0 in
-      (rw (request_alike mine key t.stored t.same) w.want, t.host ∙ w.within.host)
-
-  -- what is left of a table without a key, which it may not hold, is wanted as before
-  kept_by : (key : Key) (ws : List (Key × Want)) (o : Option Want) → want_of key ws ≡ o → AllByRecursion (Wanted me mine) ws → AllByRecursion (Wanted me mine) (without key ws)
-  kept_by key ws None q p = rw (miss_taken key ws q) p
-  kept_by key ws (Some want) q p = kept_wanted key want ws (without key ws) (find_taken key want ws q) p
-
   -- ---- giving entries to the cell
 
   -- the cell, the open requests and the lines after one entry
@@ -118,7 +100,7 @@ module _ (me : ℕ) (book : Book) (before beyond : List Request) where
   wanted_by : (contexts : List (List (List ℕ))) (key : Key) (c : Cell) (ws : List (Key × Want)) (o : Option Ending) → AllByRecursion (Wanted me mine) ws
       → AllByRecursion (Wanted me mine) (Run.ended_with o contexts key c ws).wants
   wanted_by contexts key c ws None h = h
-  wanted_by contexts key c ws (Some ending) h = kept_by key ws (want_of key ws) refl h
+  wanted_by contexts key c ws (Some ending) h = remove_each (Wanted me mine) (is_at (key_order key)) ws h
 
   -- a blank has no request that ends
   blank_or_asked : (key : Key) (p : Proposal) (c : Cell) (ending : Ending) → ending_of p c ≡ Some ending → key.host ≡ me → IsNamed book key p
@@ -130,10 +112,10 @@ module _ (me : ℕ) (book : Book) (before beyond : List Request) where
 
   -- an entry's request ends at its place
   place_move : (laws : Follows) (limit : ℕ) (contexts : List (List (List ℕ))) (d : Desk) (front back : List Entry) (e : Entry) (c : Cell) (ws : List (Key × Want)) (ending : Ending) (want : Want)
-      → Serves limit contexts d front (e ∷ back) c ws → ending_of e.proposal c ≡ Some ending → IsNamed book e.key e.proposal → Taken e.key want ws (without e.key ws)
+      → Serves limit contexts d front (e ∷ back) c ws → ending_of e.proposal c ≡ Some ending → IsNamed book e.key e.proposal → want_of e.key ws ≡ Some want
       → PlaceMove limit d (context_at contexts e.key) (c.applied + 1) ending (rests d (without e.key ws))
-  place_move laws limit contexts d front back e c ws ending want h q sort t =
-      let host = (taken_wanted e.key want ws (without e.key ws) t h.wanted).1 in
+  place_move laws limit contexts d front back e c ws ending want h q sort l =
+      let host = (found_has (Wanted me mine) e.key want ws l h.wanted).within.host in
       let s = blank_or_asked e.key e.proposal c ending q host sort in
       let k : c.applied + 1 - 1 ≡ length front = omega (arith, h.fed.count) in
       let list : d.decided ≡ map (placed contexts) front ++ placed contexts e ∷ map (placed contexts) back = h.list ∙ map-append _ front (e ∷ back) in
@@ -146,7 +128,7 @@ module _ (me : ℕ) (book : Book) (before beyond : List Request) where
         positive = omega arith;
         stands = there;
         gives = rw (older, there) (sym (fed_ending laws limit front e.proposal c h.fed) ∙ q);
-        ends = end_move contexts d e.key (whats.Proposes e.proposal) want ws (without e.key ws) h.open_ones h.contexts_are s.0 s.1 t;
+        ends = end_move contexts d e.key (whats.Proposes e.proposal) want ws (without e.key ws) h.open_ones h.contexts_are s.0 s.1 (find_taken e.key want ws l);
       }
 
   -- nothing leaves the table
@@ -161,7 +143,7 @@ module _ (me : ℕ) (book : Book) (before beyond : List Request) where
       → Moves limit d (marks_of 1 (Run.ended o contexts e.key (lines.Ended e.key 1 (c.applied + 1) ending))) (rests d (without e.key ws))
   ended_moves laws limit contexts d front back e c ws ending None h q s l = miss_moves limit d e.key ws h.open_ones l
   ended_moves laws limit contexts d front back e c ws ending (Some want) h q s l = one_moves limit d (rests d (without e.key ws)) (marks.Ends (context_at contexts e.key) (c.applied + 1) ending)
-      (place_move laws limit contexts d front back e c ws ending want h q s (find_taken e.key want ws l))
+      (place_move laws limit contexts d front back e c ws ending want h q s l)
 
   -- one entry's request, if it is open here, ends by a move
   one_by : (laws : Follows) (limit : ℕ) (contexts : List (List (List ℕ))) (d : Desk) (front back : List Entry) (e : Entry) (c : Cell) (ws : List (Key × Want)) (o : Option Ending)
@@ -207,7 +189,25 @@ module _ (me : ℕ) (book : Book) (before beyond : List Request) where
         serves = g.serves;
       })
 
+  -- after entries the open requests are in order still
+  pub applied_ordered : (contexts : List (List (List ℕ))) (es : List Entry) (c : Cell) (ws : List (Key × Want)) → AreOrdered ws → AreOrdered (applied contexts es c ws).wants
+  unfolding applied
+  applied_ordered contexts [] c ws p = p
+  applied_ordered contexts (e ∷ es) c ws p =
+      let first = one contexts e c ws in
+      applied_ordered contexts es first.cell first.wants (ordered_by e.key (given e.proposal c) (ending_of e.proposal c))
+    where
+      ordered_by : (key : Key) (c : Cell) (o : Option Ending) → AreOrdered (Run.ended_with o contexts key c ws).wants
+      ordered_by key c None = p
+      ordered_by key c (Some ending) = ordered_left (is_at (key_order key)) ws p
+
   -- ---- answering reads
+
+  -- after reads are answered the open requests are in order still
+  pub answered_ordered : (contexts : List (List (List ℕ))) (c : Cell) (keys : List Key) (ws : List (Key × Want)) → AreOrdered ws → AreOrdered (answered contexts c keys ws).wants
+  unfolding answered
+  answered_ordered contexts c [] ws p = p
+  answered_ordered contexts c (key ∷ keys) ws p = answered_ordered contexts c keys (without key ws) (ordered_left (is_at (key_order key)) ws p)
 
   -- a due read is answered by a move where it is open here, and by no line where it isn't
   told_moves : (limit : ℕ) (contexts : List (List (List ℕ))) (d : Desk) (front back : List Entry) (c : Cell) (ws : List (Key × Want)) (key : Key) (o : Option Want)
@@ -215,16 +215,16 @@ module _ (me : ℕ) (book : Book) (before beyond : List Request) where
       → Moves limit d (marks_of 1 (Run.answer_told contexts c key o)) (rests d (without key ws))
   told_moves limit contexts d front back c ws key None h r l = miss_moves limit d key ws h.open_ones l
   told_moves limit contexts d front back c ws key (Some wants.Proposal) h r l =
-      let p = (taken_wanted key wants.Proposal ws (without key ws) (find_taken key wants.Proposal ws l) h.wanted).0 in
+      let p = (found_has (Wanted me mine) key wants.Proposal ws l h.wanted).want in
       let e : whats.Proposes p.0 ≡ whats.Queries r.query = sym p.1 ∙ r.what in
       absurd cc
-  told_moves limit contexts d front back c ws key (Some (wants.Read query)) h r l =
-      let t = find_taken key (wants.Read query) ws l in
-      let q = (taken_wanted key (wants.Read query) ws (without key ws) t h.wanted).0 in
+  told_moves limit contexts d front back c ws key (Some (wants.Read query index)) h r l =
+      let t = find_taken key (wants.Read query index) ws l in
+      let q = (found_has (Wanted me mine) key (wants.Read query index) ws l h.wanted).want in
       let e = rests d (without key ws) in
       one_moves limit d e (marks.Reads (context_at contexts key) c.applied (answer c.pairs query))
       (answer_move limit contexts d e front back c (context_at contexts key) query (request_at mine key).since h.list h.fed r.late
-      (end_move contexts d key (whats.Queries query) (wants.Read query) ws (without key ws) h.open_ones h.contexts_are r.within q t))
+      (end_move contexts d key (whats.Queries query) (wants.Read query index) ws (without key ws) h.open_ones h.contexts_are r.within q t))
 
   -- the due reads that are open end by moves
   pub all_answered : (limit : ℕ) (contexts : List (List (List ℕ))) (d : Desk) (front back : List Entry) (c : Cell) (ws : List (Key × Want)) (keys : List Key) → MovesJoin
@@ -241,7 +241,7 @@ module _ (me : ℕ) (book : Book) (before beyond : List Request) where
         contexts_are = h.contexts_are;
         fed = h.fed;
         open_ones = refl;
-        wanted = kept_by key ws (want_of key ws) refl h.wanted;
+        wanted = remove_each (Wanted me mine) (is_at (key_order key)) ws h.wanted;
       } in
       let g = all_answered limit contexts d1 front back c (without key ws) keys join s p.1 in
       (rw marks_of-append (join limit d (marks_of 1 told) (marks_of 1 more.told) d1 (rests d more.wants) (told_moves limit contexts d front back c ws key (want_of key ws) h p.0 refl) g.0), g.1)

@@ -11,6 +11,7 @@ use Rattle.run_model.specs.World.{Node, new_node}
 use Rattle.host_ids.specs.declared.proposal.TheConstants.{MOST_SESSIONS}
 use Rattle.run_law.specs.Lawful.{placed}
 use Rattle.run_law.proofs.Basics.Lists.{all_append, all_map}
+use Rattle.run_law.proofs.Basics.Tables.{AreOrdered}
 use Rattle.run_law.proofs.Requests.Serials.{contexts_of, Wanted, Waits, wanted_more, reading_more, more_contexts}
 use Rattle.run_law.proofs.Cells.Judging.{Judges, new_judges}
 use Rattle.run_law.proofs.Cells.History.{past}
@@ -18,9 +19,10 @@ use Rattle.run_law.proofs.Requests.Book.{Book, asked_at, Named, opens_in, reques
 use Rattle.run_law.proofs.Requests.Book.{longer, named_more}
 use Rattle.run_law.proofs.Requests.Book.{placed_kept, contexts_more, opens_kept, opens_set, in_more, in_last, all_may, used_more, used_new}
 
--- what a host keeps: its cell stands for the first places of the decided list, and its open requests were asked at it
+-- what a host keeps: its cell stands for the first places of the decided list, and its open requests were asked at it, and are in the order of their keys
 pub record NodeFits (u limit : ℕ) (mine : List Request) (decided : List Entry) (n : Node) : Type 0 where
   pub wants : AllByRecursion (Wanted u mine) n.requests.wants
+  pub ordered : AreOrdered n.requests.wants
   pub waiting : AllByRecursion (Waits u mine) n.requests.waiting
   pub applied : n.cell.applied ≤ length decided
   pub limit_is : n.cell.sessions.limit ≡ limit
@@ -59,7 +61,7 @@ none_asked (suc n) = ap (λ (l : List (List (List ℕ))). [] ∷ l) (none_asked 
 
 -- a new node fits before anything is decided
 new_fits : (u limit : ℕ) (mine : List Request) → 1 ≤ limit → NodeFits u limit mine [] (new_node limit)
-new_fits u limit mine l = record { wants = tt; waiting = tt; applied = omega arith; limit_is = refl; judges = new_judges limit l }
+new_fits u limit mine l = record { wants = tt; ordered = tt; waiting = tt; applied = omega arith; limit_is = refl; judges = new_judges limit l }
 
 -- some hosts, before anything is asked
 pub begin_fits : (limit hosts : ℕ) → 1 ≤ limit → Fits limit (replicate hosts []) [] (replicate hosts (new_node limit)) (replicate hosts []) empty_desk
@@ -81,6 +83,7 @@ begin_fits limit hosts l = record {
 node_grown : (u limit : ℕ) (mine : List Request) (decided more : List Entry) (n : Node) → NodeFits u limit mine decided n → NodeFits u limit mine (decided ++ more) n
 node_grown u limit mine decided more n f = record {
   wants = f.wants;
+  ordered = f.ordered;
   waiting = f.waiting;
   applied = rw length-append (omega (arith, f.applied));
   limit_is = f.limit_is;
@@ -111,6 +114,7 @@ grown_fits limit book decided more nodes contexts d f all = (
 node_more : (u limit : ℕ) (mine more : List Request) (decided : List Entry) (n : Node) → NodeFits u limit mine decided n → NodeFits u limit (mine ++ more) decided n
 node_more u limit mine more decided n f = record {
   wants = all_map (Wanted u mine) (Wanted u (mine ++ more)) n.requests.wants (λ x p. wanted_more u mine more x p) f.wants;
+  ordered = f.ordered;
   waiting = all_map (Waits u mine) (Waits u (mine ++ more)) n.requests.waiting (λ x p. reading_more u mine more x.front x.key p) f.waiting;
   applied = f.applied;
   limit_is = f.limit_is;

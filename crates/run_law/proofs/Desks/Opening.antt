@@ -1,30 +1,25 @@
 -- A request that is asked at a host: the desk's moves while it opens, and where it ends at once.
-use Rattle.std.proofs.Common.{◌≡◌, ◌≢◌, ℕ, ◌+◌, ◌≤◌, ◌<◌, List, [], ◌∷◌, ◌++◌, false, take, drop, map, refl, sym, ap, ◌∙◌, subst, length, length-append, append_assoc, take-append-drop, arith}
+use Rattle.std.proofs.Common.{◌≡◌, ◌≢◌, ℕ, ◌+◌, ◌<◌, List, [], ◌∷◌, ◌++◌, false, refl, sym, ap, ◌∙◌, subst, length, length-append, append_assoc, arith}
 use Rattle.std.specs.Prelude.{bytes_eq, slice_set}
 use Rattle.std.specs.List.{AllByRecursion, list_any}
 use Rattle.std.specs.BTreeMap.{insert_entry}
+use Rattle.std.specs.declared.cmp.Ordering.TheVariants.{Greater}
 use Rattle.std.proofs.lemmas.List.{map-append, length-map, get_or-set_same}
 use Rattle.host_ids.specs.declared.entry.Key.{Key}
 use Rattle.host_ids.specs.declared.entry.Entry.{Entry}
 use Rattle.object_model.specs.declared.mark.What.{What}
-use Rattle.object_model.specs.declared.mark.What.TheVariants as whats
 use Rattle.object_model.specs.declared.mark.Mark.TheVariants as marks
-use Rattle.object_model.specs.Object.{answer}
 use Rattle.object_model.specs.Desk.{Request, Desk, Grows, Moves, AskMove, EndMove}
 use Rattle.raft_model.specs.Group.{key_order}
 use Rattle.run_model.specs.declared.told.Want.{Want}
-use Rattle.run_model.specs.declared.told.Waiting.{Waiting}
 use Rattle.run_model.specs.World.{Node, new_node, contexts_at}
 use Rattle.host_ids.specs.declared.proposal.TheConstants.{MOST_SESSIONS}
-use Rattle.run_law.specs.Lawful.{placed}
 use Rattle.run_law.proofs.Basics.Lists.{all_append, all_left, all_right, all_map}
-use Rattle.run_law.proofs.Basics.Tables.{With, insert_new}
-use Rattle.run_law.proofs.Requests.Serials.{request_at, Within, IsWanted, Wanted, Waits, request_last, more_contexts}
+use Rattle.run_law.proofs.Basics.Tables.{With, insert_new, order_after, ordered_new}
+use Rattle.run_law.proofs.Requests.Serials.{request_at, Within, IsWanted, Wanted, request_last, more_contexts}
 use Rattle.run_law.proofs.Basics.Moves.{growth_moves, next_moves}
-use Rattle.run_law.proofs.Cells.Standing.{answer_move}
 use Rattle.run_law.proofs.Requests.Book.{Book, asked_at, request_in, requests_in, opens_before, opens_beyond, opens_around, more_asked, contexts_there, unused_new}
 use Rattle.run_law.proofs.Desks.Fits.{NodeFits, at_host, Fits, hosts_same, asked_fits, set_fits}
-use Rattle.run_law.proofs.Desks.Applies.{fed_list}
 
 -- the key of the next request at a host
 abbrev pub key_of : ℕ → List (List (List ℕ)) → Key
@@ -82,7 +77,7 @@ module _ (h limit : ℕ) (book : Book) (decided : List Entry) (nodes : List Node
 
   -- in the new book the next key is that of a request of this host
   pub next_within : (context : List ℕ) (what : What) → Within h (asked_at (book_with context what) h) (key_of h contexts)
-  next_within context what = record { host = refl; positive = omega arith; most = rw (there context what, length-append) (omega (arith, count)) }
+  next_within context what = record { host = refl; start = refl; positive = omega arith; most = rw (there context what, length-append) (omega (arith, count)) }
 
   -- in the new book the next key names the new request
   pub next_is : (context : List ℕ) (what : What) → request_at (asked_at (book_with context what) h) (key_of h contexts) ≡ asking d context what
@@ -103,22 +98,6 @@ module _ (h limit : ℕ) (book : Book) (decided : List Entry) (nodes : List Node
       next_moves limit d d1 e (marks.Asks context what) (marks.Leaves context ∷ []) (ask_move context what [] d.open_ones unused refl)
       (next_moves limit d1 d2 e (marks.Leaves context) [] (record { what = what; since = length d.decided; ends = close_move d context what }) (growth_moves limit d2 e g))
 
-  -- a read that is answered at once, and then the list may grow
-  pub answered_moves : (context query : List ℕ) (e : Desk) (n : Node) (mine : List Request) → NodeFits h limit mine decided n → IsUnused contexts context → length d.decided ≤ n.cell.applied
-      → Grows (closing d context (whats.Queries query)) e
-      → Moves limit d (marks.Asks context (whats.Queries query) ∷ marks.Reads context n.cell.applied (answer n.cell.pairs query) ∷ []) e
-  answered_moves context query e n mine k unused late g =
-      let what = whats.Queries query in
-      let d1 = opening d context what in
-      let d2 = closing d context what in
-      let front = take n.cell.applied decided in
-      let back = drop n.cell.applied decided in
-      let list : d.decided ≡ map (placed contexts) (front ++ back) = f.decided ∙ ap (λ (l : List Entry). map (placed contexts) l) (sym (take-append-drop n.cell.applied decided)) in
-      let read = marks.Reads context n.cell.applied (answer n.cell.pairs query) in
-      next_moves limit d d1 e (marks.Asks context what) (read ∷ []) (ask_move context what [] d.open_ones unused refl)
-      (next_moves limit d1 d2 e read [] (answer_move limit contexts d1 d2 front back n.cell context query (length d.decided) list (fed_list h limit mine decided n k) late
-      (close_move d context what)) (growth_moves limit d2 e g))
-
   -- ---- a request that opens
 
   -- a desk to which the ask moves, with the request open, and which fits where the host's node is this one
@@ -127,18 +106,22 @@ module _ (h limit : ℕ) (book : Book) (decided : List Entry) (nodes : List Node
     pub asks : AskMove d context what desk
     pub fits : Fits limit (book_with context what) decided (slice_set nodes h n) (more_contexts h context contexts) desk
 
+  -- the next request's key comes after those of the open ones
+  next_after : (ws : List (Key × Want)) → AllByRecursion (Wanted h (asked_at book h)) ws → AllByRecursion (λ e. key_order (key_of h contexts) e.0 ≡ Greater) ws
+  next_after ws p = all_map (Wanted h (asked_at book h)) (λ e. key_order (key_of h contexts) e.0 ≡ Greater) ws
+      (λ x n. order_after (key_of h contexts) x.0 (sym n.within.host) (sym n.within.start) (omega (arith, count, n.within.most))) p
+
   -- the serial of the next request is no open one's
   next_new : (ws : List (Key × Want)) → AllByRecursion (Wanted h (asked_at book h)) ws → AllByRecursion (λ e. (key_of h contexts).serial ≢ e.0.serial) ws
   next_new ws p = all_map (Wanted h (asked_at book h)) (λ e. (key_of h contexts).serial ≢ e.0.serial) ws (λ x n. λ e. omega (arith, e, count, n.within.most)) p
 
-  -- a request under an unused context opens: it joins the open ones of its host, which then has these waiting reads
-  pub opens : (context : List ℕ) (what : What) (want : Want) (waiting : List Waiting) → h < length nodes → IsUnused contexts context → IsWanted what want
-      → AllByRecursion (Waits h (asked_at (book_with context what) h)) waiting
+  -- a request under an unused context opens: it joins the open ones of its host
+  pub opens : (context : List ℕ) (what : What) (want : Want) → h < length nodes → IsUnused contexts context → IsWanted what want
       → Opens context what (record {
         cell = (at_host nodes h).cell;
-        requests = record { wants = insert_entry key_order (at_host nodes h).requests.wants (key_of h contexts) want; waiting = waiting };
+        requests = record { wants = insert_entry key_order (at_host nodes h).requests.wants (key_of h contexts) want; waiting = (at_host nodes h).requests.waiting };
       })
-  opens context what want waiting within unused q k =
+  opens context what want within unused q =
       let r = asking d context what in
       let key = key_of h contexts in
       let more = book_with context what in
@@ -146,7 +129,7 @@ module _ (h limit : ℕ) (book : Book) (decided : List Entry) (nodes : List Node
       let n = at_host nodes h in
       let old = n.requests.wants in
       let new = insert_entry key_order old key want in
-      let node : Node = record { cell = n.cell; requests = record { wants = new; waiting = waiting } } in
+      let node : Node = record { cell = n.cell; requests = record { wants = new; waiting = n.requests.waiting } } in
       let g : Fits limit more decided nodes (more_contexts h context contexts) d1 = closing_fits context what in
       let was = g.nodes h within in
       let w : With key want old new = insert_new key want old (next_new old (f.nodes h within).wants) in
@@ -167,7 +150,14 @@ module _ (h limit : ℕ) (book : Book) (decided : List Entry) (nodes : List Node
       let rest : d.open_ones ≡ (before ++ front) ++ (back ++ beyond) =
       g.open_ones ∙ opens_around more h nodes (new_node MOST_SESSIONS) within ∙ ap (λ (l : List Request). before ++ (l ++ beyond)) older ∙ rw
       (append_assoc front back beyond, append_assoc before front (back ++ beyond)) refl in
-      let becomes : NodeFits h limit (asked_at more h) decided node = record { wants = wants; waiting = k; applied = was.applied; limit_is = was.limit_is; judges = was.judges } in
+      let becomes : NodeFits h limit (asked_at more h) decided node = record {
+        wants = wants;
+        ordered = ordered_new key want old (next_after old (f.nodes h within).wants) was.ordered;
+        waiting = was.waiting;
+        applied = was.applied;
+        limit_is = was.limit_is;
+        judges = was.judges;
+      } in
       let d2 : Desk = record d1 { open_ones = before ++ (requests_in more new ++ beyond) } in
       record {
         desk = d2;

@@ -13,11 +13,14 @@ use Rattle.raft_model.specs.declared.event.LaneEvent.{LaneEvent}
 use Rattle.raft_model.specs.declared.event.LaneEvent.TheVariants as events
 use Rattle.raft_model.specs.declared.state.State.{State as Replica}
 use Rattle.raft_model.specs.declared.state.Pending.{Pending}
-use Rattle.raft_model.specs.Group.{Group, replica_at, saved_at}
+use Rattle.raft_model.specs.Group.{Group, act, replica_at, saved_at}
 use Rattle.raft_safety.specs.History.{Agree}
 use Rattle.raft_safety.specs.Replicas.{whole}
 use Rattle.raft_safety.specs.Invariant.{Kept}
-use Rattle.raft_safety.specs.Agreed.{BeginsKept, PlainKept, AgreesWhereKept}
+use Rattle.raft_safety.specs.Events.{IsAllowed}
+use Rattle.raft_safety.specs.Agreed.{BeginsKept, StaysKept, AgreesWhereKept}
+use Rattle.raft_safety.specs.ReadFront.{AreFronted}
+use Rattle.raft_safety.specs.Rounds.{HasReads, BeginsReads, StaysReads, NotesFronts}
 use Rattle.raft_entries.specs.Kept.{Comes, Holds, Stays}
 use Rattle.raft_entries.specs.Numbers.{Numbering}
 use Rattle.raft_entries.specs.Mail.{Property}
@@ -41,9 +44,10 @@ front_of decided r z a = record {
   same = let s : take r.commit (whole decided 0 r.log.entries) ≡ take r.commit decided = subst (λ (n : ℕ). take r.commit (whole decided n r.log.entries) ≡ take r.commit decided) z a.same in s;
 }
 
--- what safety keeps, where no log is cut and all entries are numbered
+-- what safety keeps of a group and of its reads, where no log is cut and all entries are numbered
 pub record Safe (g : Group) : Type 0 where
   pub kept : Kept g
+  pub reads : HasReads g
   pub uncut : AreUncut g
   pub numbering : Holds Numbering g
 
@@ -62,14 +66,43 @@ plain_of (events.Installed h i t) k = absurd k
 plain_of (events.Down h) k = absurd k
 plain_of (events.Restart h d) k = absurd k
 
--- the invariant of groups, with uncut logs and numbered entries, gives the safety law
-pub safety_of : BeginsKept → PlainKept → AgreesWhereKept → Stays Numbering → SafetyLaw Safe
-safety_of begins plain agrees numbers = record {
-  begins = λ number voters k. record { kept = begins number voters (no_zero voters k); uncut = uncut_begins number voters; numbering = numbers.begins number voters };
-  stays = λ e is g k. record { kept = plain e is g k.kept; uncut = uncut_stays e is g k.uncut; numbering = numbers.events e g (plain_of e is) k.numbering };
+-- a plain event is allowed
+allowed_of : (e : LaneEvent) → IsPlain e → (g : Group) → IsAllowed g e
+allowed_of (events.Timeout h) k g = refl
+allowed_of (events.Beat h) k g = refl
+allowed_of (events.Deliver number) k g = refl
+allowed_of (events.Ready h) k g = refl
+allowed_of (events.Saved h id) k g = refl
+allowed_of (events.Propose h key p) k g = refl
+allowed_of (events.Ask h key) k g = refl
+allowed_of (events.Chunk h to c) k g = absurd k
+allowed_of (events.Compact h i) k g = absurd k
+allowed_of (events.Installed h i t) k g = absurd k
+allowed_of (events.Down h) k g = absurd k
+allowed_of (events.Restart h d) k g = absurd k
+
+-- the invariants of groups and of reads, with uncut logs and numbered entries, give the safety law
+pub safety_of : BeginsKept → StaysKept → AgreesWhereKept → BeginsReads → StaysReads → Stays Numbering → SafetyLaw Safe
+safety_of begins stays agrees begins_reads stays_reads numbers = record {
+  begins = λ number voters k. record {
+    kept = begins number voters (no_zero voters k);
+    reads = begins_reads number voters (no_zero voters k);
+    uncut = uncut_begins number voters;
+    numbering = numbers.begins number voters;
+  };
+  stays = λ e is g k. record {
+    kept = stays e g (allowed_of e is g) k.kept;
+    reads = stays_reads e g (allowed_of e is g) k.reads;
+    uncut = uncut_stays e is g k.uncut;
+    numbering = numbers.events e g (plain_of e is) k.numbering;
+  };
   agrees = λ g k v. front_of g.decided (replica_at g v) (k.uncut v) ((agrees g k.kept).decided v);
   numbered = λ g k. k.numbering.decided;
 }
+
+-- what events note of reads gives the read law
+pub fronts_of : NotesFronts → (e : LaneEvent) → IsPlain e → (g : Group) → Safe g → AreFronted (act e g).group.asks (act e g).notes
+fronts_of fronts e is g k = fronts e g (allowed_of e is g) k.reads
 
 -- ---- the law of entries
 

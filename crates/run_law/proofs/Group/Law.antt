@@ -1,5 +1,5 @@
 -- What a run needs to know of its group: facts about groups alone, which name no world, no context and no desk.
-use Rattle.std.proofs.Common.{◌≡◌, ◌≤◌, ◌<◌, ℕ, List, ◌∷◌, ◌++◌, Some, length, take, refl, arith}
+use Rattle.std.proofs.Common.{◌≡◌, ◌<◌, ℕ, List, ◌∷◌, ◌++◌, take, refl, arith}
 use Rattle.std.specs.List.{All, AllByRecursion, Contains}
 use Rattle.host_ids.specs.declared.entry.Key.{Key}
 use Rattle.host_ids.specs.declared.entry.Entry.{Entry}
@@ -7,13 +7,12 @@ use Rattle.host_ids.specs.declared.proposal.Proposal.{Proposal}
 use Rattle.host_ids.specs.declared.proposal.Proposal.TheVariants as proposals
 use Rattle.raft_model.specs.declared.event.LaneEvent.{LaneEvent}
 use Rattle.raft_model.specs.declared.event.LaneEvent.TheVariants as events
-use Rattle.raft_model.specs.declared.note.Note.{Note}
 use Rattle.raft_model.specs.declared.state.State.{State as Replica}
 use Rattle.raft_model.specs.Replica.{no_key}
 use Rattle.raft_model.specs.Group.{Group, act, replica_at, fresh_group}
 pub use Rattle.raft_safety.specs.Events.{IsPlain}
 use Rattle.raft_entries.specs.Numbers.{Numbered}
-use Rattle.run_model.specs.Run.{confirmed_index}
+use Rattle.raft_safety.specs.ReadFront.{AreFronted}
 
 -- each voter is a host, of which none has the number 0
 abbrev pub AreHosts : List ℕ → Type 0
@@ -51,10 +50,6 @@ pub record IsFront (decided : List Entry) (r : Replica) : Type 0 where
   pub front : r.log.front ≡ 0
   pub same : take r.commit r.log.entries ≡ take r.commit decided
 
--- a read that is confirmed at once has at least this index
-abbrev pub Heard : ℕ → List Note → Type 0
-Heard least ns = (index : ℕ) → confirmed_index ns ≡ Some index → least ≤ index
-
 -- safety: it begins where the voters are hosts, every plain event keeps it, up to its commit index each replica's log is the decided list, and that is numbered from 1 on
 pub record SafetyLaw (Kept : Group → Type 0) : Type 0 where
   pub begins : (number : ℕ) (voters : List ℕ) → AreHosts voters → Kept (fresh_group number voters)
@@ -73,5 +68,5 @@ pub record EntriesLaw (Carries : Given → Group → Type 0) : Type 0 where
 pub record GroupLaw (Kept : Group → Type 0) (Carries : Given → Group → Type 0) : Type 0 where
   pub safety : SafetyLaw Kept
   pub entries : EntriesLaw Carries
-  -- the read law, for groups of one voter: there a read is confirmed in the event that asks it
-  pub heard : (h : ℕ) (key : Key) (g : Group) → Kept g → length g.voters ≤ 1 → Heard (length g.decided) (act (events.Ask h key) g).notes
+  -- the read law: a plain event notes a read as confirmed only with an index that covers all that was decided when a read with its key was first asked
+  pub fronted : (e : LaneEvent) → IsPlain e → (g : Group) → Kept g → AreFronted (act e g).group.asks (act e g).notes

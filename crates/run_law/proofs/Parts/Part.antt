@@ -11,7 +11,7 @@ use Rattle.raft_model.specs.Group.{Group}
 use Rattle.run_model.specs.World.{World, Node}
 use Rattle.run_law.proofs.Basics.Lists.{all_map}
 use Rattle.run_law.proofs.Requests.Serials.{more_contexts}
-use Rattle.run_law.proofs.Requests.Book.{Book, IsNamed, more_asked, named_more}
+use Rattle.run_law.proofs.Requests.Book.{Book, IsNamed, AreAsked, more_asked, named_more, asked_more}
 use Rattle.run_law.proofs.Desks.Fits.{Fits, foreign, foreign_fits, hosts_same}
 use Rattle.run_law.proofs.Group.Law.{Given, IsGiven}
 
@@ -49,6 +49,7 @@ module _ (Kept : Group → Type 0) (Carries : Given → Group → Type 0) where
     pub given : Given
     pub blank : IsGiven given no_key proposals.Blank
     pub named : AllByRecursion (λ x. IsNamed book x.0 x.1) given
+    pub asks : AreAsked book p.group.asks
     pub carries : Carries given p.group
     pub fits : Fits limit book p.group.decided p.nodes p.contexts d
 
@@ -67,6 +68,7 @@ module _ (Kept : Group → Type 0) (Carries : Given → Group → Type 0) where
         blank = a.blank;
         named = all_map (λ (x : Key × Proposal). IsNamed a.book x.0 x.1) (λ (x : Key × Proposal). IsNamed (more_asked h (foreign context) a.book) x.0 x.1) a.given
             (λ x s. named_more h (foreign context) a.book x.0 x.1 room s) a.named;
+        asks = asked_more h (foreign context) a.book p.group.asks room a.asks;
         carries = a.carries;
         fits = foreign_fits h limit context a.book p.group.decided p.nodes p.contexts d few a.fits;
       }

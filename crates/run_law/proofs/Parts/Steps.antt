@@ -10,7 +10,7 @@ use Rattle.raft_model.specs.Replica.{no_key}
 use Rattle.raft_model.specs.Group.{Group, is_member, envelope_at}
 use Rattle.run_model.specs.declared.client.ClientSession.{ClientSession}
 use Rattle.script_text.specs.declared.told.Told.{Told}
-use Rattle.run_model.specs.World.{World, start}
+use Rattle.run_model.specs.World.{World, start, node_at}
 use Rattle.run_model.specs.Run
 use Rattle.run_model.specs.Run.{RunStep, is_used, grouped}
 use Rattle.run_model.specs.Marks.{marks_of}
@@ -20,11 +20,10 @@ use Rattle.run_law.proofs.Basics.Moves.{nothing_moves, marks_of-append}
 use Rattle.run_law.proofs.Group.Voters.{act_stay}
 use Rattle.run_law.proofs.Scripts.Voters.{Same, event_same, proposes_same, reads_same}
 use Rattle.run_law.proofs.Scripts.Lines.{Between, IsDone}
-use Rattle.run_law.proofs.Scripts.Runs.{AnyRoster}
 use Rattle.run_law.proofs.Desks.Fits.{Fits, begin_fits}
 use Rattle.run_law.proofs.Group.Law.{AreHosts, Given, first_given, GroupLaw}
 use Rattle.run_law.proofs.Parts.Part.{part_of, Runs}
-use Rattle.run_law.proofs.Parts.Events.{Goes, apart_goes, core_goes, event_goes}
+use Rattle.run_law.proofs.Parts.Events.{Goes, apart_goes, core_goes, event_goes, stale_goes}
 use Rattle.run_law.proofs.Parts.Asks.{proposes_goes, reads_goes}
 
 -- before the group has voters
@@ -108,6 +107,7 @@ module _ (Kept : Group → Type 0) (Carries : Given → Group → Type 0) (law :
     given = (no_key, proposals.Blank) ∷ [];
     blank = first_given no_key proposals.Blank [];
     named = (inl (refl, refl), tt);
+    asks = tt;
     carries = law.entries.none ((no_key, proposals.Blank) ∷ []) (first_given no_key proposals.Blank []) 1 roster;
     fits = subst (λ (contexts : List (List (List ℕ))). Fits limit (replicate 10 []) [] (Run.grouped roster limit w).nodes contexts empty_desk) (sym e) (begin_fits limit 10 l);
   }
@@ -142,12 +142,12 @@ module _ (Kept : Group → Type 0) (Carries : Given → Group → Type 0) (law :
       refl
 
   -- an envelope arrives
-  deliver_reach : (join : MovesJoin) (w : World) (e : Envelope) (number : ℕ) → envelope_at w.group.wire number ≡ Some e
+  deliver_reach : (laws : Follows) (join : MovesJoin) (w : World) (e : Envelope) (number : ℕ) → envelope_at w.group.wire number ≡ Some e
       → Reaches w (Run.core e.to (events.Deliver number) w).told (Run.core e.to (events.Deliver number) w).world
-  deliver_reach join w e number is =
+  deliver_reach laws join w e number is =
       steps join w (Run.core e.to (events.Deliver number) w)
       (λ b. absurd (no_envelope w e number b.wire is))
-      (λ limit d a. core_goes Kept Carries law limit w d e.to (events.Deliver number) a tt tt)
+      (λ limit d a. core_goes Kept Carries law laws limit w d e.to (events.Deliver number) join a tt tt tt)
       (act_stay (events.Deliver number) w.group)
 
   -- where lines reach a world, and more lines reach another one from there, all of them reach that
@@ -159,7 +159,7 @@ module _ (Kept : Group → Type 0) (Carries : Given → Group → Type 0) (law :
   grouped_step w roster limit e k l old r = rw append-nil (grouped_reach w roster limit e k l old r)
 
   -- each step reaches its world
-  pub reach_done : (laws : Follows) → MovesJoin → IsDone Reaches AnyRoster
+  pub reach_done : (laws : Follows) → MovesJoin → IsDone Reaches
   reach_done laws join = record {
     nothing = λ w. quiet_steps join w w.declared w.clients w.settled [] refl;
     next = joined_reach;
@@ -167,12 +167,14 @@ module _ (Kept : Group → Type 0) (Carries : Given → Group → Type 0) (law :
     declared = λ w hosts. quiet_steps join w hosts w.clients w.settled [] refl;
     clients = λ w clients. quiet_steps join w w.declared clients w.settled [] refl;
     settled = λ w number. quiet_steps join w w.declared w.clients number [] refl;
-    grouped = λ w roster limit e k l m. grouped_step w roster limit e k l;
+    grouped = λ w roster limit e k l. grouped_step w roster limit e k l;
     event = λ w host event member. member_steps join w host (Run.event_step host event w) member (λ limit d a. event_goes Kept Carries law laws limit w d host event join member a)
         (event_same host event w);
-    deliver = deliver_reach join;
+    deliver = deliver_reach laws join;
     propose = λ w host context p member unused. member_steps join w host (Run.proposes host context p w) member (λ limit d a. proposes_goes Kept Carries law limit host w d context p member a unused)
         (proposes_same host context p w);
-    read = λ w host context query member unused few. member_steps join w host (Run.read_asked host (Run.next_key w host) context query w) member
-        (λ limit d a. reads_goes Kept Carries law limit host w d context query member a unused few) (reads_same host context query w);
+    read = λ w host context query member unused. member_steps join w host (Run.read_asked host (Run.next_key w host) context query w) member
+        (λ limit d a. reads_goes Kept Carries law laws limit host w d context query join member a unused) (reads_same host context query w);
+    stale = λ w host query member. member_steps join w host (Run.tells w (Run.stale_answer host query (node_at w host).cell)) member
+        (λ limit d a. stale_goes Kept Carries law limit w d host query member a) refl;
   }

@@ -1,5 +1,5 @@
 -- What was asked at each host, the entries that name a request of any host, and the open requests of all hosts.
-use Rattle.std.proofs.Common.{◌≡◌, ◌≢◌, ℕ, zero, suc, ◌+◌, ◌-◌, ◌<◌, List, [], ◌∷◌, ◌++◌, Bool, true, false, length, get_or, take, drop, map, refl, sym, ap, ◌∙◌, subst, append_assoc, append-nil}
+use Rattle.std.proofs.Common.{◌≡◌, ◌≢◌, ℕ, zero, suc, ◌+◌, ◌-◌, ◌<◌, ◌≤◌, List, [], ◌∷◌, ◌++◌, Bool, true, false, length, get_or, take, drop, map, refl, sym, ap, ◌∙◌, subst, append_assoc, append-nil}
 use Rattle.std.proofs.Common.{take-append-drop, arith, ◌⊎◌, inl, inr}
 use Rattle.std.specs.Prelude.{bytes_eq, slice_set, ◌||◌}
 use Rattle.std.specs.List.{AllByRecursion, list_any, flat_map}
@@ -39,6 +39,15 @@ IsNamed book key p = IsSort key.host (asked_at book key.host) key p
 -- the book names an entry: it is a blank without a key, or was asked under its key
 pub record Named (book : Book) (e : Entry) : Type 0 where
   pub sort : IsNamed book e.key e.proposal
+
+-- a read with this key was asked, when the decided list had at most this length
+pub record IsAsked (book : Book) (key : Key) (least : ℕ) : Type 0 where
+  pub within : Within key.host (asked_at book key.host) key
+  pub late : (request_in book key).since ≤ least
+
+-- so it is with each key of this table, and with the number that it has there
+abbrev pub AreAsked : Book → List (Key × ℕ) → Type 0
+AreAsked book asks = AllByRecursion (λ e. IsAsked book e.0 e.1) asks
 
 -- the requests that the keys of a table name, in the order of the table
 abbrev pub requests_in : Book → List (Key × Want) → List Request
@@ -107,6 +116,18 @@ pub request_kept : (h : ℕ) (r : Request) (book : Book) (key : Key) → h < len
 request_kept h r book key room w =
     let l = longer h r book key.host room in
     rw l.1 (request_same key.host (asked_at book key.host) l.0 key w)
+
+-- with one request more at a host, the reads that were asked are as before
+pub asked_more : (h : ℕ) (r : Request) (book : Book) (asks : List (Key × ℕ)) → h < length book → AreAsked book asks → AreAsked (more_asked h r book) asks
+asked_more h r book [] room p = tt
+asked_more h r book (e ∷ asks) room p =
+    let l = longer h r book e.0.host room in (
+      record {
+        within = rw l.1 (within_more e.0.host (asked_at book e.0.host) l.0 e.0 p.0.within);
+        late = rw (request_kept h r book e.0 room p.0.within) p.0.late;
+      },
+      asked_more h r book asks room p.1,
+    )
 
 -- with one request more at a host, the open requests of any host are as before
 pub requests_kept : (h : ℕ) (r : Request) (book : Book) (u : ℕ) (ws : List (Key × Want)) → h < length book → AllByRecursion (Wanted u (asked_at book u)) ws

@@ -27,9 +27,10 @@ request_at asked key = get_or asked (key.serial - 1) none
 abbrev pub contexts_of : List Request → List (List ℕ)
 contexts_of asked = map (λ r. r.context) asked
 
--- a key of a request that was asked at this host
+-- a key of a request that was asked at this host, in its one start
 pub record Within (h : ℕ) (asked : List Request) (key : Key) : Type 0 where
   pub host : key.host ≡ h
+  pub start : key.start ≡ 1
   pub positive : 0 < key.serial
   pub most : key.serial ≤ length asked
 
@@ -40,7 +41,7 @@ IsSort h asked key p = ((key.serial ≡ 0) × (p ≡ proposals.Blank)) ⊎ (With
 -- an open request waits for what was asked under its key
 abbrev pub IsWanted : What → Want → Type 0
 IsWanted what wants.Proposal = (p : Proposal) × (what ≡ whats.Proposes p)
-IsWanted what (wants.Read query) = what ≡ whats.Queries query
+IsWanted what (wants.Read query front) = what ≡ whats.Queries query
 
 -- an open request: its key is that of a request of this host, and it waits for what was asked under the key
 pub record Wanted (h : ℕ) (asked : List Request) (e : Key × Want) : Type 0 where
@@ -68,13 +69,9 @@ request_same h asked more key w = get_or_append_left asked more none (key.serial
 pub request_last : (asked : List Request) (r : Request) (key : Key) → key.serial ≡ length asked + 1 → request_at (asked ++ r ∷ []) key ≡ r
 request_last asked r key e = get_or_push asked r none (key.serial - 1) (omega (arith, e))
 
--- keys of one serial name one request
-pub request_alike : (asked : List Request) (a b : Key) → a.serial ≡ b.serial → request_at asked a ≡ request_at asked b
-request_alike asked a b e = ap (λ (n : ℕ). get_or asked (n - 1) none) e
-
 -- with more asked, the key of a request of this host is still one
 pub within_more : (h : ℕ) (asked more : List Request) (key : Key) → Within h asked key → Within h (asked ++ more) key
-within_more h asked more key w = record { host = w.host; positive = w.positive; most = rw length-append (omega (arith, w.most)) }
+within_more h asked more key w = record { host = w.host; start = w.start; positive = w.positive; most = rw length-append (omega (arith, w.most)) }
 
 -- with more asked, what is a blank without a key, or was asked under its key, is so still
 pub sort_more : (h : ℕ) (asked more : List Request) (key : Key) (p : Proposal) → IsSort h asked key p → IsSort h (asked ++ more) key p

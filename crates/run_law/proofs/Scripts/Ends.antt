@@ -3,11 +3,9 @@ use Rattle.std.proofs.Common.{◌≡◌, ℕ, ◌+◌, List, [], ◌∷◌, Bool
 use Rattle.std.specs.Prelude.{◌||◌}
 use Rattle.script_text.specs.declared.limit.Limit.{Limit}
 use Rattle.script_text.specs.declared.script.ScriptLine.{ScriptLine}
-use Rattle.script_text.specs.declared.script.Setup.{Setup}
-use Rattle.script_text.specs.declared.script.Setup.TheVariants as setups
 use Rattle.run_model.specs.declared.told.Stop.TheVariants.{Ended}
 use Rattle.run_model.specs.World.{World, start}
-use Rattle.script_text.specs.Script.{read_line, setup_after, is_end, parts_of, said_well, are_lines}
+use Rattle.script_text.specs.Script.{read_line, is_end, parts_of, said_well, are_lines}
 use Rattle.run_model.specs.Run
 use Rattle.run_model.specs.Run.{Turn, Outcome, turn, run, reached}
 use Rattle.run_law.specs.Complete.{EndsOrIsFull, ScriptsEnd}
@@ -38,17 +36,17 @@ goes_on w n None more well e h = absurd cc
 goes_on w n (Some line) more well e h = by_end w (more line) (is_end line) (well line) e (h line)
 
 -- a run over the lines of a script of the grammar stops so, from any world
-run_ends : (setup : Setup) (w : World) (n size : ℕ) (parts : List (List ℕ)) → are_lines setup parts ≡ true → Ends (run setup w n size parts)
+run_ends : (w : World) (n size : ℕ) (parts : List (List ℕ)) → are_lines parts ≡ true → Ends (run w n size parts)
 unfolding run
-run_ends setup w n size [] e = absurd cc
-run_ends setup w n size (line ∷ []) e = absurd cc
-run_ends setup w n size (line ∷ next ∷ more) e =
+run_ends w n size [] e = absurd cc
+run_ends w n size (line ∷ []) e = absurd cc
+run_ends w n size (line ∷ next ∷ more) e =
     let bytes = size + (length line + 1) in
     unless_full w _ (reached w size)
-    (goes_on w n (read_line setup line) _ _ e
-    (λ said k. after_by (turn said bytes w) (λ u. run (setup_after said setup) u (n + 1) bytes (next ∷ more)) (turn said bytes w).full
-    (λ v. run_ends (setup_after said setup) v (n + 1) bytes (next ∷ more) k)))
+    (goes_on w n (read_line line) _ _ e
+    (λ said k. after_by (turn said bytes w) (λ u. run u (n + 1) bytes (next ∷ more)) (turn said bytes w).full
+    (λ v. run_ends v (n + 1) bytes (next ∷ more) k)))
 
 -- every run over a script of the grammar stops so
 pub all_end : ScriptsEnd
-all_end text e = run_ends setups.Single start 0 0 (parts_of text) e
+all_end text e = run_ends start 0 0 (parts_of text) e

@@ -8,10 +8,8 @@ use Rattle.host_ids.specs.declared.proposal.Proposal.TheVariants as proposals
 use Rattle.wire_codec.specs.declared.envelope.Envelope.{Envelope}
 use Rattle.raft_model.specs.declared.event.LaneEvent.TheVariants as events
 use Rattle.raft_model.specs.Group.{is_member, envelope_at}
-use Rattle.host_ids.specs.declared.kind.Kind.{Kind}
 use Rattle.run_model.specs.declared.client.ClientSession.{ClientSession}
 use Rattle.script_text.specs.declared.limit.Limit.{Limit}
-use Rattle.script_text.specs.declared.script.Setup.{Setup}
 use Rattle.script_text.specs.declared.script.ScriptLine.{ScriptLine}
 use Rattle.script_text.specs.declared.script.ScriptLine.TheVariants as script_lines
 use Rattle.script_text.specs.declared.script.HostEvent.{HostEvent}
@@ -23,13 +21,12 @@ use Rattle.script_text.specs.declared.refusal.Refusal.TheVariants as refusals
 use Rattle.script_text.specs.Print.{refusal_number}
 use Rattle.host_ids.specs.declared.proposal.TheConstants.{MOST_COMMAND}
 use Rattle.script_text.specs.declared.line.Line.TheVariants as lines
-use Rattle.run_model.specs.World.{World, is_declared}
+use Rattle.run_model.specs.World.{World, is_declared, node_at}
 use Rattle.script_text.specs.declared.limit.TheConstants.{MOST_APPLIED}
 use Rattle.host_ids.specs.declared.proposal.TheConstants.{MOST_SESSIONS}
 use Rattle.run_model.specs.Run
 use Rattle.run_model.specs.Run.{RunStep, Turn, settle, save_each, deliver_each, apply_each, turn, reached, is_used, next_key, again, asks, call, close, completed, declare, deliver, event_step, group}
-use Rattle.run_model.specs.Run.{lose, reads, register, settles, show}
-use Rattle.script_text.specs.Script.{may_read}
+use Rattle.run_model.specs.Run.{lose, reads, register, settles, show, stale}
 use Rattle.run_model.specs.Marks.{line_marks}
 use Rattle.run_law.proofs.Basics.Lists.{all_map}
 use Rattle.run_law.proofs.Scripts.Rosters.{IsGood, IsPositive}
@@ -44,21 +41,22 @@ Between = World → List Told → World → Type 0
 abbrev pub IsMute : Line → Type 0
 IsMute line = (g : ℕ) → line_marks g (codes "-") line ≡ []
 
--- it is done by each step, and by what comes one after the other, where the rosters of groups are admitted, and reads come while no group has more than one voter
-pub record IsDone (P : Between) (Admits : List ℕ → Type 0) : Type 0 where
+-- it is done by each step, and by what comes one after the other
+pub record IsDone (P : Between) : Type 0 where
   pub nothing : (w : World) → P w [] w
   pub next : (u v w : World) (a b : List Told) → P u a v → P v b w → P u (a ++ b) w
   pub mute : (w : World) (line : Line) → IsMute line → P w (Run.bare line ∷ []) w
   pub declared : (w : World) (hosts : List Bool) → P w [] (record w { declared = hosts })
   pub clients : (w : World) (clients : List (List ℕ × ClientSession)) → P w [] (record w { clients = clients })
   pub settled : (w : World) (number : ℕ) → P w [] (record w { settled = number })
-  pub grouped : (w : World) (roster : List ℕ) (limit : ℕ) → Run.has_group w ≡ false → AreHosts roster → 1 ≤ limit → Admits roster → P w [] (Run.grouped roster limit w)
+  pub grouped : (w : World) (roster : List ℕ) (limit : ℕ) → Run.has_group w ≡ false → AreHosts roster → 1 ≤ limit → P w [] (Run.grouped roster limit w)
   pub event : (w : World) (host : ℕ) (event : HostEvent) → is_member w.group host ≡ true → P w (Run.event_step host event w).told (Run.event_step host event w).world
   pub deliver : (w : World) (e : Envelope) (number : ℕ) → envelope_at w.group.wire number ≡ Some e → P w (Run.core e.to (events.Deliver number) w).told (Run.core e.to (events.Deliver number) w).world
   pub propose : (w : World) (host : ℕ) (context : List ℕ) (p : Proposal) → is_member w.group host ≡ true → is_used w context ≡ false
       → P w (Run.proposes host context p w).told (Run.proposes host context p w).world
-  pub read : (w : World) (host : ℕ) (context query : List ℕ) → is_member w.group host ≡ true → is_used w context ≡ false → length w.group.voters ≤ 1
+  pub read : (w : World) (host : ℕ) (context query : List ℕ) → is_member w.group host ≡ true → is_used w context ≡ false
       → P w (Run.read_asked host (next_key w host) context query w).told (Run.read_asked host (next_key w host) context query w).world
+  pub stale : (w : World) (host : ℕ) (query : List ℕ) → is_member w.group host ≡ true → P w (Run.bare (Run.stale_answer host query (node_at w host).cell) ∷ []) w
 
 -- each of these hosts is one of the voters
 abbrev Members : List ℕ → List ℕ → Type 0
@@ -82,7 +80,7 @@ positive_by : (limit : Option ℕ) → IsPositive limit → 1 ≤ unwrap_or limi
 positive_by None k = omega arith
 positive_by (Some limit) k = k
 
-module _ (P : Between) (Admits : List ℕ → Type 0) (h : IsDone P Admits) where
+module _ (P : Between) (h : IsDone P) where
   -- ---- requests
 
   -- it is done by a step
@@ -128,10 +126,15 @@ module _ (P : Between) (Admits : List ℕ → Type 0) (h : IsDone P Admits) wher
       at_request w host context _
       (λ member unused. unless w (nat_lt MOST_COMMAND (length command)) refusals.LongCommand _ (λ _. h.propose w host context p member unused))
 
-  -- it is done by a read that is asked, where the group has one voter at most
-  reads_done : (w : World) (host : ℕ) (context query : List ℕ) → length w.group.voters ≤ 1 → Stepped w (Run.reads host context query w)
+  -- it is done by a read that is asked
+  reads_done : (w : World) (host : ℕ) (context query : List ℕ) → Stepped w (Run.reads host context query w)
   unfolding reads
-  reads_done w host context query few = at_request w host context _ (λ member unused. h.read w host context query member unused few)
+  reads_done w host context query = at_request w host context _ (λ member unused. h.read w host context query member unused)
+
+  -- it is done by a query that is answered from what a host has applied
+  stale_done : (w : World) (host : ℕ) (query : List ℕ) → Stepped w (Run.stale host query w)
+  unfolding stale
+  stale_done w host query = at_replica w host _ (λ member. h.stale w host query member)
 
   -- it is done by a session that is registered
   register_done : (w : World) (host : ℕ) (context name : List ℕ) (client : ℕ) → Stepped w (Run.register host context name client w)
@@ -303,30 +306,29 @@ module _ (P : Between) (Admits : List ℕ → Type 0) (h : IsDone P Admits) wher
       let v : World = record w { declared = slice_set w.declared host true } in
       unless w _ refusals.Declared _ (λ _. h.next w v v [] (Run.bare (lines.Started host 1) ∷ []) (h.declared w v.declared) (h.mute v (lines.Started host 1) (λ g. refl)))
 
-  -- it is done by a line that declares a group, if its voters are hosts, its own limit is positive and its roster is admitted
-  group_done : (w : World) (roster : List ℕ) (limit : Option ℕ) → AreHosts roster → IsPositive limit → Admits roster → Stepped w (Run.group roster limit w)
+  -- it is done by a line that declares a group, if its voters are hosts and its own limit is positive
+  group_done : (w : World) (roster : List ℕ) (limit : Option ℕ) → AreHosts roster → IsPositive limit → Stepped w (Run.group roster limit w)
   unfolding group
-  group_done w roster limit r l m = unless w _ refusals.NotDeclared _ (λ _. unless w (Run.has_group w) refusals.Declared _ (λ e. h.grouped w roster (unwrap_or limit MOST_SESSIONS) e r (positive_by limit l) m))
+  group_done w roster limit r l = unless w _ refusals.NotDeclared _ (λ _. unless w (Run.has_group w) refusals.Declared _ (λ e. h.grouped w roster (unwrap_or limit MOST_SESSIONS) e r (positive_by limit l)))
 
-  -- it is done by each good line, if the roster that it names is admitted, and the group has one voter at most where reads may be
-  pub turn_turned : (setup : Setup) (said : ScriptLine) (size : ℕ) (w : World) → IsGood setup said
-      → ((number : ℕ) (kind : Kind) (roster : List ℕ) (limit : Option ℕ) → said ≡ script_lines.Group number kind roster limit → Admits roster) → (may_read setup ≡ true → length w.group.voters ≤ 1)
-      → P w (turn said size w).told (turn said size w).world
+  -- it is done by each good line
+  pub turn_turned : (said : ScriptLine) (size : ℕ) (w : World) → IsGood said → P w (turn said size w).told (turn said size w).world
   unfolding turn settles completed
-  turn_turned setup script_lines.Skipped size w k admits few = h.nothing w
-  turn_turned setup script_lines.End size w k admits few = h.nothing w
-  turn_turned setup (script_lines.Host host) size w k admits few = declare_done w host
-  turn_turned setup (script_lines.Group number kind roster limit) size w k admits few = group_done w roster limit k.0 k.1 (admits number kind roster limit refl)
-  turn_turned setup (script_lines.Event host event) size w k admits few = at_replica w host _ (λ member. h.event w host event member)
-  turn_turned setup (script_lines.Deliver number envelope) size w k admits few = deliver_done w envelope
-  turn_turned setup (script_lines.Ask host number context command) size w k admits few = asks_done w host context command (proposals.Plain command)
-  turn_turned setup (script_lines.Read host number context query) size w k admits few = reads_done w host context query (few k)
-  turn_turned setup (script_lines.Register host number context session client) size w k admits few = register_done w host context session client
-  turn_turned setup (script_lines.Call host context session command) size w k admits few = call_done w host context session command
-  turn_turned setup (script_lines.Again host context session) size w k admits few = again_done w host context session
-  turn_turned setup (script_lines.Completed session) size w k admits few = completed_by w session (Run.client_at w session)
-  turn_turned setup (script_lines.Close host context session) size w k admits few = close_done w host context session
-  turn_turned setup (script_lines.Raw host number context client series responded command) size w k admits few = asks_done w host context command (proposals.Session client series responded command)
-  turn_turned setup (script_lines.Settle number) size w k admits few = settles_turned size w
-  turn_turned setup (script_lines.Lose number) size w k admits few = lose_done w
-  turn_turned setup (script_lines.Wire number envelope) size w k admits few = show_done w envelope
+  turn_turned script_lines.Skipped size w k = h.nothing w
+  turn_turned script_lines.End size w k = h.nothing w
+  turn_turned (script_lines.Host host) size w k = declare_done w host
+  turn_turned (script_lines.Group number kind roster limit) size w k = group_done w roster limit k.0 k.1
+  turn_turned (script_lines.Event host event) size w k = at_replica w host _ (λ member. h.event w host event member)
+  turn_turned (script_lines.Deliver number envelope) size w k = deliver_done w envelope
+  turn_turned (script_lines.Ask host number context command) size w k = asks_done w host context command (proposals.Plain command)
+  turn_turned (script_lines.Read host number context query) size w k = reads_done w host context query
+  turn_turned (script_lines.Stale host number query) size w k = stale_done w host query
+  turn_turned (script_lines.Register host number context session client) size w k = register_done w host context session client
+  turn_turned (script_lines.Call host context session command) size w k = call_done w host context session command
+  turn_turned (script_lines.Again host context session) size w k = again_done w host context session
+  turn_turned (script_lines.Completed session) size w k = completed_by w session (Run.client_at w session)
+  turn_turned (script_lines.Close host context session) size w k = close_done w host context session
+  turn_turned (script_lines.Raw host number context client series responded command) size w k = asks_done w host context command (proposals.Session client series responded command)
+  turn_turned (script_lines.Settle number) size w k = settles_turned size w
+  turn_turned (script_lines.Lose number) size w k = lose_done w
+  turn_turned (script_lines.Wire number envelope) size w k = show_done w envelope

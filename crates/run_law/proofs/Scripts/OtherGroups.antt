@@ -1,5 +1,6 @@
 -- A run tells nothing of any group but 1.
 use Rattle.std.proofs.Common.{◌≡◌, ℕ, ◌==◌, List, [], ◌∷◌, ◌++◌, Bool, false, Option, Some, None, cond, map, refl}
+use Rattle.std.specs.List.{flat_map}
 use Rattle.std.proofs.lemmas.Bool.{cond_both}
 use Rattle.host_ids.specs.declared.batch.Batch.{Batch}
 use Rattle.host_ids.specs.declared.entry.Key.{Key}
@@ -8,7 +9,8 @@ use Rattle.host_ids.specs.declared.proposal.Proposal.{Proposal}
 use Rattle.object_model.specs.declared.mark.Ending.{Ending}
 use Rattle.raft_model.specs.declared.event.LaneEvent.{LaneEvent}
 use Rattle.raft_model.specs.declared.event.LaneEvent.TheVariants as events
-use Rattle.raft_model.specs.Group.{act, replica_at}
+use Rattle.raft_model.specs.declared.note.Note.{Note}
+use Rattle.raft_model.specs.Group.{replica_at}
 use Rattle.script_text.specs.declared.script.HostEvent.{HostEvent}
 use Rattle.script_text.specs.declared.script.HostEvent.TheVariants as host_events
 use Rattle.script_text.specs.declared.told.Told.{Told}
@@ -24,7 +26,7 @@ use Rattle.run_model.specs.Marks.{marks_of}
 use Rattle.run_law.proofs.Basics.Moves.{marks_of-append}
 use Rattle.run_law.proofs.Group.Notes.{notes_marks}
 use Rattle.run_law.proofs.Scripts.Lines.{Between, IsDone}
-use Rattle.run_law.proofs.Scripts.Runs.{AnyRoster, outcome_done}
+use Rattle.run_law.proofs.Scripts.Runs.{outcome_done}
 
 -- the group isn't 1
 pub record IsOther (g : ℕ) : Type 0 where
@@ -64,7 +66,7 @@ applied_silent g contexts (e ∷ es) c ws n =
 answer_silent : (g : ℕ) (contexts : List (List (List ℕ))) (c : Cell) (key : Key) (o : Option Want) → IsOther g → IsSilent g (Run.answer_told contexts c key o)
 answer_silent g contexts c key None n = refl
 answer_silent g contexts c key (Some wants.Proposal) n = refl
-answer_silent g contexts c key (Some (wants.Read query)) n = rw n.differs refl
+answer_silent g contexts c key (Some (wants.Read query front)) n = rw n.differs refl
 
 -- reads that are answered say nothing of another group
 answered_silent : (g : ℕ) (contexts : List (List (List ℕ))) (c : Cell) (keys : List Key) (ws : List (Key × Want)) → IsOther g → IsSilent g (answered contexts c keys ws).told
@@ -80,14 +82,20 @@ answered_silent g contexts c (key ∷ keys) ws n =
 by_cond : (g : ℕ) (b : Bool) (x y : RunStep) → IsSilent g x.told → IsSilent g y.told → IsSilent g (cond b x y).told
 by_cond g b x y p q = cond_both b x y (λ (s : RunStep). IsSilent g s.told) (λ _. p) (λ _. q)
 
--- an event of the core says nothing of requests, of whichever group
-core_silent : (g h : ℕ) (e : LaneEvent) (w : World) → IsSilent g (Run.core h e w).told
-core_silent g h e w = notes_marks g (act e w.group).notes
+-- what a host hears of an event says nothing of another group
+heard_silent : (g h : ℕ) (ns : List Note) (w : World) → IsOther g → IsSilent g (Run.heard h ns w).told
+heard_silent g h ns w n = let node = Run.listening ns (node_at w h) in answered_silent g w.contexts node.cell _ node.requests.wants n
 
--- a batch that is handed back, if there is one, says nothing of requests either
-handed_silent : (g h : ℕ) (o : Option Batch) (w : World) → IsSilent g (Run.handed_back h o w).told
-handed_silent g h None w = refl
-handed_silent g h (Some b) w = core_silent g h (events.Saved h b.id) w
+-- an event of the core says nothing of another group
+core_silent : (g h : ℕ) (e : LaneEvent) (w : World) → IsOther g → IsSilent g (Run.core h e w).told
+core_silent g h e w n =
+    let ns = Run.noted e w in
+    both_silent g (flat_map Run.note_told ns) (Run.heard h ns (Run.moved h e w)).told (notes_marks g ns) (heard_silent g h ns (Run.moved h e w) n)
+
+-- a batch that is handed back, if there is one, says nothing of it either
+handed_silent : (g h : ℕ) (o : Option Batch) (w : World) → IsOther g → IsSilent g (Run.handed_back h o w).told
+handed_silent g h None w n = refl
+handed_silent g h (Some b) w n = core_silent g h (events.Saved h b.id) w n
 
 -- an apply says nothing of another group
 apply_silent : (g h most : ℕ) (w : World) → IsOther g → IsSilent g (Run.apply h most w).told
@@ -101,10 +109,10 @@ apply_silent g h most w n =
 -- no event at a host says anything of another group
 event_silent : (g h : ℕ) (w : World) (event : HostEvent) → IsOther g → IsSilent g (Run.event_step h event w).told
 unfolding event_step
-event_silent g h w (host_events.Timeout group) n = core_silent g h (events.Timeout h) w
-event_silent g h w (host_events.Beat group) n = core_silent g h (events.Beat h) w
-event_silent g h w (host_events.Ready group) n = core_silent g h (events.Ready h) w
-event_silent g h w (host_events.Save group) n = let v = Run.taken h w in handed_silent g h (Run.pending_at v h) v
+event_silent g h w (host_events.Timeout group) n = core_silent g h (events.Timeout h) w n
+event_silent g h w (host_events.Beat group) n = core_silent g h (events.Beat h) w n
+event_silent g h w (host_events.Ready group) n = core_silent g h (events.Ready h) w n
+event_silent g h w (host_events.Save group) n = let v = Run.taken h w in handed_silent g h (Run.pending_at v h) v n
 event_silent g h w (host_events.Apply group most) n = apply_silent g h most w n
 
 -- a proposal that is asked says nothing of another group
@@ -117,9 +125,11 @@ reads_silent : (g h : ℕ) (w : World) (context query : List ℕ) → IsOther g 
 unfolding read_asked
 reads_silent g h w context query n =
     let key = Run.next_key w h in
-    let ns = Run.noted (events.Ask h key) w in
-    by_cond g (Run.is_dropped ns) _ (Run.read_taken h key context query (Run.confirmed_index ns) (Run.moved h (events.Ask h key) (Run.named h context w))) (rw n.differs refl)
-    (by_cond g (Run.is_reached (Run.confirmed_index ns) _) _ _ (rw n.differs refl) (rw n.differs refl))
+    let e = events.Ask h key in
+    let v = Run.opened h key (wants.Read query None) (Run.moved h e (Run.named h context w)) in
+    let told = Run.asked context (lines.AskRead key 1 query) [] in
+    by_cond g (Run.is_dropped (Run.noted e w)) _ _ (rw n.differs refl)
+    (both_silent g told (Run.heard h (Run.noted e w) v).told (rw n.differs refl) (heard_silent g h (Run.noted e w) v n))
 
 -- ---- the run
 
@@ -128,7 +138,7 @@ abbrev Says : ℕ → Between
 Says g w told v = IsSilent g told
 
 -- no step says anything of another group
-silence_done : (g : ℕ) → IsOther g → IsDone (Says g) AnyRoster
+silence_done : (g : ℕ) → IsOther g → IsDone (Says g)
 unfolding grouped
 silence_done g n = record {
   nothing = λ w. refl;
@@ -137,11 +147,12 @@ silence_done g n = record {
   declared = λ w hosts. refl;
   clients = λ w clients. refl;
   settled = λ w number. refl;
-  grouped = λ w roster limit e k l m. refl;
+  grouped = λ w roster limit e k l. refl;
   event = λ w host event member. event_silent g host w event n;
-  deliver = λ w e number is. core_silent g e.to (events.Deliver number) w;
+  deliver = λ w e number is. core_silent g e.to (events.Deliver number) w n;
   propose = λ w host context p member unused. proposes_silent g host w context p n;
-  read = λ w host context query member unused few. reads_silent g host w context query n;
+  read = λ w host context query member unused. reads_silent g host w context query n;
+  stale = λ w host query member. rw n.differs refl;
 }
 
 -- entries that are shown say nothing of another group

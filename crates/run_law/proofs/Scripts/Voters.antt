@@ -63,9 +63,7 @@ unfolding read_asked
 reads_same h context query w =
     let key = next_key w h in
     let e = events.Ask h key in
-    let v = Run.moved h e (Run.named h context w) in
-    step_by w (Run.is_dropped (Run.noted e w)) _ (Run.read_taken h key context query (Run.confirmed_index (Run.noted e w)) v) (act_stay e w.group)
-    (step_by w (Run.is_reached (Run.confirmed_index (Run.noted e w)) _) _ _ (act_stay e w.group) (act_stay e w.group))
+    step_by w (Run.is_dropped (Run.noted e w)) _ _ (act_stay e w.group) (act_stay e w.group)
 
 -- ---- parts of a settle
 

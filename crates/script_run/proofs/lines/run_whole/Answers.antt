@@ -12,7 +12,7 @@ returns-in-Some-reached c =
       v.1.printed,
       record {
         own = λ spent. spent;
-        reached = λ more. ends v.0 _ _ _ _ (v.1.ahead more) (at_limit r.setup (world_of r.world) r.lines r.size (c.script.rest.now ++ more) c.in-Some-reached.limit (sym c.reached.ensures ∙ c.in-Some-reached.is));
+        reached = λ more. ends v.0 _ _ _ _ (v.1.ahead more) (at_limit (world_of r.world) r.lines r.size (c.script.rest.now ++ more) c.in-Some-reached.limit (sym c.reached.ensures ∙ c.in-Some-reached.is));
       },
     )
 
@@ -27,7 +27,7 @@ returns-in-Err-BadLine c =
         own = λ spent. spent;
         reached = λ more. ends v.0 _ _ _ _ (v.1.ahead more)
             (rw (c.in-Some.ensures.parts more)
-            (at_bad r.setup (world_of r.world) r.lines r.size c.in-Some.line.now (c.in-Some.after.now ++ more) (sym c.reached.ensures ∙ c.in_default-reached.is) bad.1));
+            (at_bad (world_of r.world) r.lines r.size c.in-Some.line.now (c.in-Some.after.now ++ more) (sym c.reached.ensures ∙ c.in_default-reached.is) bad.1));
       },
     )
 
@@ -41,7 +41,7 @@ returns-then-is_end c =
         own = λ spent. spent;
         reached = λ more. ends v.0 _ _ _ _ (v.1.ahead more)
             (rw (c.in-Some.ensures.parts more)
-            (at_end r.setup (world_of r.world) r.lines r.size c.in-Some.line.now (c.in-Some.after.now ++ more) c.in-Ok.said (sym c.reached.ensures ∙ c.in_default-reached.is) c.in-Ok.ensures.line (sym c.is_end.ensures ∙ c.if-is_end.true)));
+            (at_end (world_of r.world) r.lines r.size c.in-Some.line.now (c.in-Some.after.now ++ more) c.in-Ok.said (sym c.reached.ensures ∙ c.in_default-reached.is) c.in-Ok.ensures.line (sym c.is_end.ensures ∙ c.if-is_end.true)));
       },
     )
 
@@ -56,7 +56,7 @@ returns-in-Some-2 c =
       record {
         own = λ spent. spent;
         reached = λ more. rw c.in_ok-limit.ensures.world
-            (full_reached v.0 r.setup w r.lines r.size (c.script.rest.now ++ more) c.in-Some.line.now (c.in-Some.after.now ++ more) c.in-Ok.said c.in-Some-2.limit _ (v.1.ahead more) (c.in-Some.ensures.parts more)
+            (full_reached v.0 w r.lines r.size (c.script.rest.now ++ more) c.in-Some.line.now (c.in-Some.after.now ++ more) c.in-Ok.said c.in-Some-2.limit _ (v.1.ahead more) (c.in-Some.ensures.parts more)
             (sym c.reached.ensures ∙ c.in_default-reached.is) c.in-Ok.ensures.line (sym c.is_end.ensures ∙ c.if-is_end.false) (sym c.in_ok-limit.ensures.full ∙ c.in-Some-2.is));
       },
     )
@@ -70,8 +70,8 @@ script-preserved c =
       v.0 ++ lines,
       record {
         printed = c.in_ok-limit.ensures.told ∙ ap (λ (l : List ℕ). l ++ lines) v.1.printed ∙ append_assoc c.args.out.now v.0 lines;
-        ahead = λ more. rw (c.in_ok-limit.ensures.world, c.setup_after-runner.ensures)
-            (next_ahead v.0 r.setup w r.lines r.size (c.script.rest.now ++ more) c.in-Some.line.now (c.in-Some.after.now ++ more) c.in-Ok.said _ (v.1.ahead more) (c.in-Some.ensures.parts more)
+        ahead = λ more. rw c.in_ok-limit.ensures.world
+            (next_ahead v.0 w r.lines r.size (c.script.rest.now ++ more) c.in-Some.line.now (c.in-Some.after.now ++ more) c.in-Ok.said _ (v.1.ahead more) (c.in-Some.ensures.parts more)
             (sym c.reached.ensures ∙ c.in_default-reached.is) c.in-Ok.ensures.line (sym c.is_end.ensures ∙ c.if-is_end.false) (sym c.in_ok-limit.ensures.full ∙ c.in_default-2.is));
         sizes = omega (arith, c.in-Some.ensures.length, v.1.sizes);
         counts = omega (arith, v.1.counts);
@@ -86,7 +86,7 @@ returns-in-Some-full c =
       v.1.printed,
       record {
         own = λ spent. spent;
-        reached = λ more. ends v.0 _ _ _ _ (v.1.ahead more) (at_limit r.setup (world_of r.world) r.lines r.size (c.script.rest.now ++ more) c.in-Some-full.limit (sym c.reached-full.ensures ∙ c.in-Some-full.is));
+        reached = λ more. ends v.0 _ _ _ _ (v.1.ahead more) (at_limit (world_of r.world) r.lines r.size (c.script.rest.now ++ more) c.in-Some-full.limit (sym c.reached-full.ensures ∙ c.in-Some-full.is));
       },
     )
 
@@ -99,7 +99,7 @@ returns-then-rest-gt-MOST_LINE c =
       record {
         own = λ spent. spent;
         reached = λ more. ends v.0 _ _ _ _ (v.1.ahead more)
-            (at_long r.setup (world_of r.world) r.lines r.size c.script.rest.now more (sym c.reached-full.ensures ∙ c.in_default-full.is) c.in_default.ensures.parts c.if-rest-gt-MOST_LINE.true);
+            (at_long (world_of r.world) r.lines r.size c.script.rest.now more (sym c.reached-full.ensures ∙ c.in_default-full.is) c.in_default.ensures.parts c.if-rest-gt-MOST_LINE.true);
       },
     )
 

@@ -145,7 +145,7 @@ source-init g c =
       [],
       [],
       record {
-        under = begins _ _ p c.new-held.result.items r.world r.setup r.lines r.size c.new-held.ensures.items;
+        under = begins _ _ p c.new-held.result.items r.world r.lines r.size c.new-held.ensures.items;
         counts = omega (arith, r.lines);
         below = omega (arith, r.size);
         within = begins_within p.world p.size r.world r.size;

@@ -2,6 +2,7 @@
 
     python3 compare.py PRODUCT PLAIN FROM TO     drawn scripts of the seeds FROM to TO
     python3 compare.py PRODUCT PLAIN --load      time and memory on the load scripts
+    python3 compare.py PRODUCT PLAIN --load L..  the same on these alone, as "reads 60000"
     python3 compare.py PRODUCT PLAIN --file F..  the scripts of these files
 
 Output and exit status have to be the same, byte for byte. The first drawn script where they aren't
@@ -20,7 +21,7 @@ KEPT = "difference.script"
 SECONDS = 120
 LOADS = ["follower 38000", "follower 60000", "single 60000", "asks 100000", "asks 199999",
          "unsaved 60000 7", "unsaved 100000 3", "unsaved 199999 3", "unsaved 199999 7",
-         "older 50000", "older 100000", "reads 30000", "reads 90000", "reads_follower 20000",
+         "older 50000", "older 100000", "reads 30000", "reads 60000", "reads_follower 30000",
          "reads_follower 60000", "comments 20000"]
 TIMES = 3
 
@@ -99,13 +100,13 @@ def same_bytes(one, other):
                 return True
 
 
-def compare_loads(programs):
+def compare_loads(programs, loads):
     print("%-20s %10s %10s %10s %10s %10s %10s" % (
         ("load",) + ("product s", "cpu s", "MB") + ("plain s", "cpu s", "MB")))
     with tempfile.TemporaryDirectory() as folder:
         path = os.path.join(folder, "script")
         outputs = [os.path.join(folder, name) for name in ("product", "plain")]
-        for load in LOADS:
+        for load in loads:
             with open(path, "wb") as file:
                 subprocess.run([sys.executable, SCRIPTS] + load.split(), stdout=file, check=True)
             row, statuses = [], []
@@ -123,8 +124,8 @@ def main(words):
     if len(words) < 3:
         raise SystemExit(__doc__)
     product, plain = map(os.path.abspath, words[:2])
-    if words[2:] == ["--load"]:
-        compare_loads([product, plain])
+    if words[2] == "--load":
+        compare_loads([product, plain], words[3:] or LOADS)
     elif words[2] == "--file":
         compare_files(product, plain, words[3:])
     elif len(words) == 4:

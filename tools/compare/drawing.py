@@ -1,4 +1,7 @@
-"""Draws a script beside a running program, which shows what is on the wire and who leads."""
+"""Draws a script beside a running program, which shows what is on the wire and who leads.
+
+`compare.py` compares two programs on such scripts, and `tools/drawn_scripts` has some of them judged.
+"""
 
 import subprocess
 
@@ -64,10 +67,13 @@ KINDS = {
 class Drawing:
     """A group, the lines that were drawn of it, and what the program showed of them so far."""
 
-    def __init__(self, rng, plain):
+    def __init__(self, rng, program, many=70):
+        """Beside the program at a path. A leader that is to be deposed is asked at most `many` commands."""
+        self.many = many
         self.rng, self.lines, self.wire, self.fresh = rng, [], [], []
         self.contexts, self.clients, self.names, self.leader = [], [], [], None
-        self.run = subprocess.Popen([plain, "run"], stdin=subprocess.PIPE, stdout=subprocess.PIPE)
+        self.voters, self.others, self.limit = [], [], None
+        self.run = subprocess.Popen([program, "run"], stdin=subprocess.PIPE, stdout=subprocess.PIPE)
 
     def stop(self):
         self.run.stdin.close()
@@ -75,47 +81,71 @@ class Drawing:
         self.run.wait()
 
     def draw(self):
-        """The bytes of a script of a drawn kind."""
+        """The bytes of a script of a drawn kind, at times with a bad end."""
         rng = self.rng
-        size = rng.choice([1, 1, 2, 3, 3, 3, 3, 4, 5, 5, 6, 7])
-        self.voters = sorted(rng.sample(range(1, 10), size))
-        self.others = [host for host in range(1, 10) if host not in self.voters]
-        self.leader = self.voters[0]
+        self.choose(rng.choice([1, 1, 2, 3, 3, 3, 3, 4, 5, 5, 6, 7]))
         weights = dict(BASE, **KINDS[rng.choice(sorted(KINDS))])
         self.begin()
+        self.move(weights, rng.choice([10, 40, 120, 250, 400]))
+        if rng.random() < 0.7:
+            self.finish()
+        return b"".join(line + b"\n" for line in self.lines) + self.ending()
+
+    def whole(self, size, kind, count):
+        """The lines of a script of a kind for a number of voters, without comments and up to its `end`."""
+        self.choose(size)
+        self.begin()
+        self.move(dict(BASE, **KINDS[kind], skip=0), count)
+        self.finish()
+        return [line.decode() for line in self.lines] + ["end"]
+
+    def choose(self, size):
+        """The voters, and the hosts that are none."""
+        self.voters = sorted(self.rng.sample(range(1, 10), size))
+        self.others = [host for host in range(1, 10) if host not in self.voters]
+        self.leader = self.voters[0]
+
+    def move(self, weights, count):
+        """About `count` lines more."""
         moves = sorted(weights)
         numbers = [weights[move] for move in moves]
-        count = len(self.lines) + rng.choice([10, 40, 120, 250, 400])
+        count += len(self.lines)
         while len(self.lines) < count:
-            getattr(self, rng.choices(moves, numbers)[0])()
-        if rng.random() < 0.7:
-            for _ in range(2):
-                self.settle()
-                self.say("beat %d 1" % self.leader)
+            getattr(self, self.rng.choices(moves, numbers)[0])()
+
+    def finish(self):
+        """Lines that let the hosts come to an end."""
+        for _ in range(2):
             self.settle()
-        return b"".join(line + b"\n" for line in self.lines) + self.ending()
+            self.say("beat %d 1" % self.leader)
+        self.settle()
 
     def begin(self):
         """The hosts and the group, now and then with refused lines among them."""
         rng = self.rng
-        roster = ",".join(map(str, self.voters))
         limit = rng.choice(["", "", " 1", " 2", " 3", " 4096"])
         hosts = self.voters + self.others[:1]
         rng.shuffle(hosts)
         for host in hosts:
             if rng.random() < 0.05:
-                self.say("group 1 regular %s" % roster)
+                self.declare("")
                 self.early()
             self.say("host %d" % host)
         if rng.random() < 0.2:
             self.early()
-        self.say("group 1 regular %s%s" % (roster, limit))
+        self.declare(limit)
         if rng.random() < 0.15:
             host = self.voter()
             for _ in range(8):
                 self.say("%s %d 1" % (rng.choice(["timeout", "ready", "save"]), host))
         elif rng.random() < 0.95:
             self.elect()
+
+    def declare(self, limit):
+        """The group's line. Its limit of sessions holds if it isn't refused."""
+        roster = ",".join(map(str, self.voters))
+        if not self.say("group 1 regular %s%s" % (roster, limit)):
+            self.limit = int(limit or 4096)
 
     def early(self):
         """Lines before there is a group."""
@@ -128,7 +158,7 @@ class Drawing:
             "read %d 1 %s count" % (host, self.context()), "stale %d 1 count" % host]))
 
     def ending(self):
-        """Mostly the line that ends a script, at times with more behind it, or a bad line."""
+        """Mostly the line that ends a script, at times with more after it, or a bad line."""
         drawn, rng = self.rng.random(), self.rng
         if drawn < 0.75:
             return b"end\n"
@@ -143,12 +173,13 @@ class Drawing:
     # what the program shows
 
     def say(self, line):
-        """Adds a line, and looks at what it prints and sends. The looking is no part of it."""
+        """Adds a line, and looks at what it prints and sends. The looking is no part of the script."""
         self.lines.append(line.encode())
         told = self.tell([line] + SENTINEL + self.probes(ROUNDED_UP), ROUNDED_UP)
         for words in told:
             if words[0] == "leader":
                 self.leader = int(words[1])
+        return told
 
     def probes(self, count):
         newest = len(self.wire)
@@ -181,7 +212,7 @@ class Drawing:
     def hear(self):
         line = self.run.stdout.readline()
         if not line:
-            raise SystemExit("the plain program stopped at:\n%s" % b"\n".join(self.lines).decode())
+            raise SystemExit("the program stopped at:\n%s" % b"\n".join(self.lines).decode())
         return line.decode().rstrip("\n")
 
     # who, what and under which context
@@ -228,7 +259,7 @@ class Drawing:
         self.say("save %d 1" % self.voter())
 
     def ready(self):
-        """Takes a batch, and hands it back behind some other moves."""
+        """Takes a batch, and hands it back after some other moves."""
         host = self.voter()
         self.say("ready %d 1" % host)
         for _ in range(self.rng.randint(0, 4)):
@@ -282,7 +313,7 @@ class Drawing:
         if not heirs:
             return
         deposed = self.leader
-        for _ in range(self.rng.choice([1, 2, 70])):
+        for _ in range(self.rng.choice([1, 2, self.many])):
             self.say("ask %d 1 %s %s" % (deposed, self.context(), self.command()))
         if self.rng.random() < 0.4:
             self.read_at(deposed)
@@ -340,7 +371,7 @@ class Drawing:
             looked = newest
 
     def exchange(self, looked, together):
-        """Delivers what these hosts have sent to each other past an envelope."""
+        """Delivers what these hosts have sent to each other after an envelope."""
         newest = len(self.wire)
         numbers = [number for number in range(looked + 1, newest + 1)
                    if self.wire[number - 1][0] in together and self.wire[number - 1][1] in together]

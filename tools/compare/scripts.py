@@ -16,18 +16,43 @@ A script goes to standard output. The same seed gives the same script again.
 
 import random
 import sys
+from functools import partial
 
 from drawing import Drawing
 
 
 def election(size, limit=""):
-    """A group of hosts 1 to so many, of which the first is elected."""
+    """A group of the hosts from 1 to a number, of which the first is elected."""
     voters = range(1, size + 1)
     for host in voters:
         yield "host %d" % host
     yield "group 1 regular %s%s" % (",".join(map(str, voters)), limit)
     yield "timeout 1 1"
     yield "settle 1"
+
+
+def applied(size):
+    """A group in which all have applied the first entry."""
+    yield from election(size)
+    yield "beat 1 1"
+    yield "settle 1"
+
+
+def settled(begun, line, count):
+    """A group that has begun, the same line for each number up to a count, and then a settle."""
+    yield from begun
+    for number in range(1, count + 1):
+        yield line % number
+    yield "settle 1"
+    yield "end"
+
+
+def puts(size, count):
+    """The leader is asked for puts, and saves them."""
+    yield from election(size)
+    for number in range(1, count + 1):
+        yield "ask 1 1 c%d put k%d v%d" % (number, number % 5000, number)
+    yield "save 1 1"
 
 
 def follower(count):
@@ -51,26 +76,16 @@ def single(count):
 
 
 def asks(count):
-    yield from election(1)
-    for number in range(1, count + 1):
-        yield "ask 1 1 c%d add n 1" % number
-    yield "settle 1"
-    yield "end"
+    return settled(election(1), "ask 1 1 c%d add n 1", count)
 
 
 def unsaved(count, size):
-    yield from election(size)
-    for number in range(1, count + 1):
-        yield "ask 1 1 c%d put k%d v%d" % (number, number % 5000, number)
-    yield "save 1 1"
+    yield from puts(size, count)
     yield "end"
 
 
 def older(count):
-    yield from election(3)
-    for number in range(1, count + 1):
-        yield "ask 1 1 c%d put k%d v%d" % (number, number % 5000, number)
-    yield "save 1 1"
+    yield from puts(3, count)
     yield "lose 1"
     yield "timeout 1 1"
     for _ in range(count // 64 // 32 + 2):
@@ -80,22 +95,8 @@ def older(count):
     yield "end"
 
 
-def reads(count):
-    yield from election(3)
-    for number in range(1, count + 1):
-        yield "read 1 1 r%d count" % number
-    yield "settle 1"
-    yield "end"
-
-
-def reads_follower(count):
-    yield from election(3)
-    yield "beat 1 1"
-    yield "settle 1"
-    for number in range(1, count + 1):
-        yield "read 2 1 r%d count" % number
-    yield "settle 1"
-    yield "end"
+def reads_at(host, count):
+    return settled(applied(3), "read %d 1 r%%d count" % host, count)
 
 
 def comments(count):
@@ -114,8 +115,8 @@ def drawn(seed, plain):
 
 
 LOADS = {"follower": (follower, 1), "single": (single, 1), "asks": (asks, 1),
-         "unsaved": (unsaved, 2), "older": (older, 1), "reads": (reads, 1),
-         "reads_follower": (reads_follower, 1), "comments": (comments, 1)}
+         "unsaved": (unsaved, 2), "older": (older, 1), "reads": (partial(reads_at, 1), 1),
+         "reads_follower": (partial(reads_at, 2), 1), "comments": (comments, 1)}
 
 
 def main(words):

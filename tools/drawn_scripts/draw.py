@@ -2,71 +2,75 @@
 
     python3 tools/drawn_scripts/draw.py crates/host_cli/out/host_cli
 
-The argument is the built program `host_cli`, which tells the drawing how many envelopes are on the
-wire. The same program gives the same file again.
+The argument is the built program `host_cli`, beside which the scripts are drawn. The same program
+gives the same file again.
 """
 
 import os
 import random
+import subprocess
 import sys
 
-from program import Program, count_of, leaders_in
-from script import Script
-
 HERE = os.path.dirname(os.path.abspath(__file__))
+sys.path.insert(0, os.path.join(HERE, "..", "compare"))
+
+from drawing import Drawing
+
 STDIN = os.path.join(HERE, "..", "..", "crates", "judged_runs", "stdin")
 COMMAND = "# python3 tools/drawn_scripts/draw.py crates/host_cli/out/host_cli"
-ENDINGS = ["done", "rejected", "responded", "registered", "closed"]
 
-SIZES = [3, 4, 5, 6, 7] * 9 + [1] * 4
-LINES = 240
-FEWEST_ENTRIES = 8
-LIMITS = [None, None, 1, 2, 3]
-
-
-def voters_of(rng, size):
-    """So many hosts, often not the first ones."""
-    if rng.random() < 0.3:
-        return list(range(1, size + 1))
-    return sorted(rng.sample(range(1, 10), size))
+SIZES = range(1, 8)
+KINDS = ["mixed", "calm", "storm", "split", "apart", "sessions", "reads"]
+LINES = 180
+FEWEST = {"entries": 12, "reads": 2, "stale answers": 1}
+COUNTED = {"entries": ["entry"], "reads": ["read"], "stale answers": ["stale"], "leaders": ["leader"],
+           "endings": ["done", "rejected", "responded", "registered", "closed"]}
 
 
-def drawn(program, number, size, attempt=0):
-    """The script of a number, and what it prints: the first that decides enough entries."""
-    rng = random.Random("script %d, attempt %d" % (number, attempt))
-    voters, limit = voters_of(rng, size), rng.choice(LIMITS)
-    script = Script(rng, voters, limit, program)
-    script.draw(LINES)
-    output = program.printed(script.lines)
-    if count_of(["entry"], output) < FEWEST_ENTRIES:
-        return drawn(program, number, size, attempt + 1)
-    roster = ",".join(str(voter) for voter in voters)
-    head = "= script %d drawn script %d, voters %s" % (limit or 4096, number, roster)
-    return [head] + script.lines + ["end"], output
+def printed(program, lines):
+    """What the program prints of a script that comes to its end."""
+    text = "".join(line + "\n" for line in lines)
+    run = subprocess.run([program, "run"], input=text, capture_output=True, text=True, timeout=60)
+    if run.returncode != 0:
+        raise SystemExit("status %d of the script:\n%s" % (run.returncode, text))
+    return run.stdout.splitlines()
 
 
 def counts_of(output):
-    return [count_of(["entry"], output), count_of(ENDINGS, output), count_of(["read"], output),
-            len(leaders_in(output))]
+    """How often each kind of line stands in an output."""
+    verbs = [line.split()[0] for line in output]
+    return {name: sum(map(verbs.count, counted)) for name, counted in COUNTED.items()}
+
+
+def drawn(program, size, kind, attempt=0):
+    """A script of a kind, and how much it prints: the first that shows enough of what is wanted."""
+    rng = random.Random("%s, %d voters, attempt %d" % (kind, size, attempt))
+    drawing = Drawing(rng, program, many=3)
+    try:
+        lines = drawing.whole(size, kind, LINES)
+    finally:
+        drawing.stop()
+    counts = counts_of(printed(program, lines))
+    if any(counts[name] < fewest for name, fewest in FEWEST.items()):
+        return drawn(program, size, kind, attempt + 1)
+    voters = ",".join(map(str, drawing.voters))
+    return ["= script %d drawn, %s, voters %s" % (drawing.limit, kind, voters)] + lines, counts
 
 
 def main():
     if len(sys.argv) != 2:
         raise SystemExit(__doc__)
-    program = Program(os.path.abspath(sys.argv[1]))
-    sections, counts, several = [], [], 0
-    for number, size in enumerate(SIZES, 1):
-        section, output = drawn(program, number, size)
-        sections += section
-        counts.append(counts_of(output))
-        several += len(leaders_in(output)) > 1
+    program = os.path.abspath(sys.argv[1])
+    scripts = [drawn(program, size, kind) for kind in KINDS for size in SIZES]
     with open(os.path.join(HERE, "outputs.txt")) as file:
         outputs = file.read()
     with open(STDIN, "w") as file:
-        file.write(COMMAND + "\n" + outputs + "".join(line + "\n" for line in sections))
-    totals = tuple(sum(column) for column in zip(*counts))
-    print("%d scripts, %d of them with two leaders or more" % (len(counts), several))
-    print("%d entries, %d endings, %d reads, %d leaders" % totals)
+        file.write(COMMAND + "\n" + outputs)
+        file.writelines(line + "\n" for section, _ in scripts for line in section)
+    several = sum(counts["leaders"] > 1 for _, counts in scripts)
+    lines = sum(len(section) - 1 for section, _ in scripts)
+    print("%d scripts, %d of them with two leaders or more, %d lines" % (len(scripts), several, lines))
+    print(", ".join("%d %s" % (sum(counts[name] for _, counts in scripts), name) for name in COUNTED))
 
 
 if __name__ == "__main__":

@@ -126,7 +126,7 @@ class Play(Schedule):
 
 
 def worked(name):
-    """The group behind a worked run, and its events."""
+    """The group after a worked run, and its events."""
     play = Play()
     for line in (ELECTION + " / " + WORKED[name]).split(" / "):
         play.line(line)
@@ -223,7 +223,7 @@ class Draw(Schedule):
 
 
 def drawn(seed, voters, count):
-    """The group behind a drawn schedule, and its events."""
+    """The group after a drawn schedule, and its events."""
     draw = Draw(seed, voters)
     while len(draw.events) < count:
         draw.one()

@@ -18,7 +18,7 @@ class Batch:
         self.front, self.front_term, self.first, self.entries = front, front_term, first, entries
 
     def over(self, old):
-        """This batch behind what was saved before it, as one batch of all entries that stay."""
+        """What was saved before and this batch after it, as one batch of all entries that stay."""
         kept = [entry for entry in old.entries if self.front < entry[0] < self.first]
         return Batch(self.id, self.term, self.vote, self.commit, self.front, self.front_term,
                      self.front + 1, kept + self.entries)

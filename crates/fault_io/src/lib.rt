@@ -8,8 +8,6 @@ mod memory;
 mod sink;
 mod source;
 mod standard;
-#[cfg(test)]
-mod tests;
 mod whole;
 
 pub use fault::IoFault;

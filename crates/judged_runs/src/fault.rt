@@ -35,6 +35,9 @@ pub enum Flaw {
     /// What is asked or shown is neither a proposal nor a read.
     #[error("this is neither a proposal nor a read")]
     Request,
+    /// No line of the script asks what a line `stale` answers.
+    #[error("no line of the script asks for this")]
+    Query,
     /// Memory ran out at this line.
     #[error("memory ran out")]
     NoMemory,

@@ -9,6 +9,8 @@ pub struct Counts {
     pub endings: usize,
     /// Reads that are answered.
     pub reads: usize,
+    /// Queries that are answered from what one host has applied.
+    pub stales: usize,
     /// Elections that are won.
     pub leaders: usize,
 }
@@ -54,11 +56,12 @@ impl fmt::Display for Counts {
             entries,
             endings,
             reads,
+            stales,
             leaders,
         } = self;
         write!(
             f,
-            "{entries} entries, {endings} done, {reads} reads, {leaders} leaders"
+            "{entries} entries, {endings} done, {reads} reads, {stales} stale, {leaders} leaders"
         )
     }
 }

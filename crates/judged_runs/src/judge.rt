@@ -23,10 +23,12 @@ fn counts(lines: &[&str], marks: &[Mark]) -> Counts {
     let is_entry = |mark: &&Mark| matches!(mark, Mark::Shows { .. });
     let is_ending = |mark: &&Mark| matches!(mark, Mark::Ends { .. });
     let is_read = |mark: &&Mark| matches!(mark, Mark::Reads { .. });
+    let is_stale = |mark: &&Mark| matches!(mark, Mark::Stales { .. });
     Counts {
         entries: marks.iter().filter(is_entry).count(),
         endings: marks.iter().filter(is_ending).count(),
         reads: marks.iter().filter(is_read).count(),
+        stales: marks.iter().filter(is_stale).count(),
         leaders: lines
             .iter()
             .filter(|line| line.starts_with("leader "))
@@ -34,9 +36,12 @@ fn counts(lines: &[&str], marks: &[Mark]) -> Counts {
     }
 }
 
-/// Judges a printed output.
+/// Judges a printed output. Its lines after `> ` are lines of the script.
 fn judge_output<'a>(alloc: Global, section: &Section<'a>) -> Result<Finding<'a>, Fault> {
-    let marks = marks_of(alloc, &section.body).map_err(|Misprint { before, flaw }| {
+    let body = &section.body;
+    let script = body.iter().filter_map(|line| line.strip_prefix("> "));
+    let script: Vec<&str> = script.collect(alloc)?;
+    let marks = marks_of(alloc, &script, body).map_err(|Misprint { before, flaw }| {
         let line = section.line.saturating_add(before as u64).saturating_add(1);
         Fault::Input { line, flaw }
     })?;
@@ -55,7 +60,10 @@ fn judge_script<'a>(alloc: Global, section: &Section<'a>) -> Result<Finding<'a>,
         return Ok(Finding::Failed { name, status });
     }
     let printed: Vec<&str> = played.output.lines().collect(alloc)?;
-    let marks = marks_of(alloc, &printed).map_err(|Misprint { before, flaw }| Fault::Printed {
+    let script = section.body.iter().copied();
+    let script: Vec<&str> = script.take_while(|line| *line != "end").collect(alloc)?;
+    let marks = marks_of(alloc, &script, &printed);
+    let marks = marks.map_err(|Misprint { before, flaw }| Fault::Printed {
         line: section.line,
         printed: (before as u64).saturating_add(1),
         flaw,

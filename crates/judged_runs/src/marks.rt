@@ -146,6 +146,37 @@ fn read_in(alloc: Global, text: &str) -> Result<Mark, Flaw> {
     })
 }
 
+/// The host of a line `stale H ..`, whether of a script or of an output, and what stands after it.
+fn stale_at(line: &str) -> Option<(&str, &str)> {
+    line.strip_prefix("stale ")?.split_once(' ')
+}
+
+fn is_stale_at(line: &str, host: &str) -> bool {
+    matches!(stale_at(line), Some((named, _)) if named == host)
+}
+
+/// The query that a printed `stale` line of a host answers, if the script has one: the printed line
+/// leaves it out. A host that has answered a `stale` line of a script answers each later one, so what
+/// is asked stands in the line that has as many `stale` lines of that host after it.
+fn query_of_stale<'a>(script: &[&'a str], host: &str, after: &[&str]) -> Option<&'a str> {
+    let is_of_host = |line: &&&str| is_stale_at(line, host);
+    let later = after.iter().filter(is_of_host).count();
+    let mut asking = script.iter().rev().filter(|line| is_stale_at(line, host));
+    stale_at(asking.nth(later)?)?.1.strip_prefix("1 ")
+}
+
+/// `H 1 N ANSWER`, where the lines after it are these.
+fn stale_in(alloc: Global, text: &str, script: &[&str], after: &[&str]) -> Result<Mark, Flaw> {
+    let (host, rest) = cut(text)?;
+    let (front, answer) = cut(beyond_group(rest)?)?;
+    let query = query_of_stale(script, host, after).ok_or(Flaw::Query)?;
+    Ok(Mark::Stales {
+        front: number_in(front)?,
+        query: query_in(alloc, query)?,
+        answer: only_word(alloc, answer)?,
+    })
+}
+
 /// `1 I CTX TEXT`.
 fn entry_in(alloc: Global, text: &str) -> Result<Mark, Flaw> {
     let (place, rest) = cut(beyond_group(text)?)?;
@@ -159,11 +190,17 @@ fn entry_in(alloc: Global, text: &str) -> Result<Mark, Flaw> {
     })
 }
 
-/// The mark of a printed line other than `end`, if it says anything of the group's requests.
-fn mark_in(alloc: Global, line: &str) -> Result<Option<Mark>, Flaw> {
+/// The mark of a line of an output other than `end`, if it says anything of the group. It was printed
+/// for this script, and the lines after it are these.
+fn mark_in(
+    alloc: Global,
+    line: &str,
+    script: &[&str],
+    after: &[&str],
+) -> Result<Option<Mark>, Flaw> {
     let (verb, rest) = line.split_once(' ').unwrap_or((line, ""));
     let mark = match verb {
-        "started" | "leader" | "idle" | "refused" | "wire" => return Ok(None),
+        "started" | "leader" | "idle" | "refused" | "wire" | ">" => return Ok(None),
         "ask" => asked_in(alloc, rest)?,
         "done" => done_in(alloc, rest)?,
         "rejected" => ended_in(alloc, rest, Ending::Rejected)?,
@@ -174,21 +211,24 @@ fn mark_in(alloc: Global, line: &str) -> Result<Option<Mark>, Flaw> {
             context: only_word(alloc, rest)?,
         },
         "read" => read_in(alloc, rest)?,
+        "stale" => stale_in(alloc, rest, script, after)?,
         "entry" => entry_in(alloc, rest)?,
         _ => return Err(Flaw::Verb),
     };
     Ok(Some(mark))
 }
 
-/// The marks of the lines of a whole output, of which the last is `end`.
-pub fn marks_of(alloc: Global, lines: &[&str]) -> Result<Vec<Mark>, Misprint> {
+/// The marks of the lines of a whole output, of which the last is `end`. They were printed for this
+/// script, of which only the lines `stale` are needed.
+pub fn marks_of(alloc: Global, script: &[&str], lines: &[&str]) -> Result<Vec<Mark>, Misprint> {
     let mut marks = Vec::new(alloc);
     let Some((last, lines)) = lines.split_last() else {
         let flaw = Flaw::End;
         return Err(Misprint { before: 0, flaw });
     };
     for (before, line) in lines.iter().enumerate() {
-        let mark = mark_in(alloc, line).map_err(|flaw| Misprint { before, flaw })?;
+        let after = &lines[before + 1..];
+        let mark = mark_in(alloc, line, script, after).map_err(|flaw| Misprint { before, flaw })?;
         if let Some(mark) = mark {
             let flaw = Flaw::NoMemory;
             marks.push(mark).map_err(|_| Misprint { before, flaw })?;

@@ -3,7 +3,7 @@ use crate::sections::sections;
 use std::test::Fail;
 
 /// Inputs with `/` between their lines, each with a bad line, and what is said of it.
-const BAD_INPUTS: [(&str, &str); 16] = [
+const BAD_INPUTS: [(&str, &str); 20] = [
     ("# a comment//idle", "line 3: no section has begun"),
     (
         "= list 1 a",
@@ -46,6 +46,22 @@ const BAD_INPUTS: [(&str, &str); 16] = [
     (
         "= output 1 a/rejected a 1 -/end",
         "line 2: a word should be a number",
+    ),
+    (
+        "= output 1 a/stale 1 1 0 -/end",
+        "line 2: no line of the script asks for this",
+    ),
+    (
+        "= output 1 a/> stale 1 1 get x/stale 2 1 0 -/end",
+        "line 3: no line of the script asks for this",
+    ),
+    (
+        "= output 1 a/> stale 1 1 put x 1/stale 1 1 0 -/end",
+        "line 3: this is neither a proposal nor a read",
+    ),
+    (
+        "= output 1 a/> stale 1 1 get x/stale 1 1 0/end",
+        "line 3: a word is missing, or is one too many",
     ),
     (
         "= output 1 a/ask a 2 put x 1/end",
@@ -93,12 +109,29 @@ fn scripts_are_run(rt: HostRuntime) -> Result<(), Fail> {
         "= script 1 one voter/# a comment/host 1/group 1 regular 1 1//timeout 1 1/settle 1/register 1 1 r s 5/ask 1 1 a put x 5/settle 1/read 1 1 b get x/end";
     assert_eq!(rt;
         said(&rt, script)?.as_str(),
-        "legal one voter: 9 lines, 3 entries, 2 done, 1 reads, 1 leaders/"
+        "legal one voter: 9 lines, 3 entries, 2 done, 1 reads, 0 stale, 1 leaders/"
     );
     let bad = "= script 1 a bad line/host 1/hots 2/end/= script 1 no end/host 1";
     assert_eq!(rt;
         said(&rt, bad)?.as_str(),
         "status 3 a bad line/status 3 no end/"
     );
+    Ok(())
+}
+
+#[test]
+fn stale_answers_are_of_their_queries(rt: HostRuntime) -> Result<(), Fail> {
+    let script =
+        "= script 1 two hosts/host 1/host 2/stale 1 1 get y/stale 2 1 count/group 1 regular 1,2/timeout 1 1/settle 1/stale 1 1 count/ask 1 1 a put x 5/settle 1/stale 2 1 get x/stale 1 1 get x/stale 3 1 count/stale 2 1 count/stale 1 1 count/end/stale 1 1 get x";
+    assert_eq!(rt;
+        said(&rt, script)?.as_str(),
+        "legal two hosts: 17 lines, 2 entries, 1 done, 0 reads, 5 stale, 1 leaders/"
+    );
+    let output =
+        "= output 1 in order/> stale 1 1 get x/stale 1 1 1 -/> stale 2 1 count/> stale 1 1 count/stale 2 1 0 0/stale 1 1 1 0/entry 1 1 - blank/end";
+    assert_eq!(rt; said(&rt, output)?.as_str(), "legal in order/");
+    let output =
+        "= output 1 turned round/> stale 1 1 get x/stale 1 1 1 0/> stale 1 1 count/stale 1 1 1 -/entry 1 1 - blank/end";
+    assert_eq!(rt; said(&rt, output)?.as_str(), "not legal turned round/");
     Ok(())
 }

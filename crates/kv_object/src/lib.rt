@@ -6,6 +6,3 @@ mod kv;
 
 pub use image::ImageFault;
 pub use kv::Kv;
-
-#[cfg(test)]
-mod tests;

@@ -1,4 +1,4 @@
-//! Tests of a lane: worked runs, and drawn events beside the same given to replicas by themselves.
+//! A test of a lane: drawn events beside the same given to replicas by themselves.
 #![tactic(auto)]
 
 #[cfg(test)]

@@ -42,7 +42,7 @@ use Rattle.script_text.specs.declared.limit.Limit.{Limit}
 use Rattle.script_text.specs.declared.limit.Limit.TheVariants as limits
 use Rattle.script_text.specs.declared.line.Line.{Line}
 use Rattle.script_text.specs.declared.line.Line.TheVariants as lines
-use Rattle.script_text.specs.declared.limit.TheConstants.{MOST_APPLIED, MOST_ENTRIES, MOST_ENVELOPES, MOST_LINE, MOST_SCRIPT}
+use Rattle.script_text.specs.declared.limit.TheConstants.{MOST_APPLIED, MOST_ENTRIES, MOST_ENVELOPES, MOST_LINE, MOST_ROUNDS, MOST_SCRIPT}
 use Rattle.host_ids.specs.declared.proposal.TheConstants.{MOST_SESSIONS}
 use Rattle.script_text.specs.declared.refusal.Refusal.{Refusal}
 use Rattle.script_text.specs.declared.refusal.Refusal.TheVariants as refusals
@@ -608,11 +608,8 @@ unfoldable pub settle : ℕ → ℕ → World → Turn
 settle zero size w = whole (quiet w)
 settle (suc rounds) size w = where_busy (is_busy w) w (λ v. then_turn (round size v) (λ u. settle rounds size u))
 
-abbrev pub most_rounds : ℕ
-most_rounds = 64
-
 unfoldable pub settles : ℕ → World → Turn
-settles size w = if has_group w then settle most_rounds size w else whole (refuses w refusals.NoReplica)
+settles size w = if has_group w then settle MOST_ROUNDS size w else whole (refuses w refusals.NoReplica)
 
 -- ---- hosts and groups
 

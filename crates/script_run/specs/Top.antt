@@ -17,7 +17,7 @@ use Rattle.script_run.specs.declared.lines.Progress.{Progress}
 use Rattle.script_run.specs.declared.lines.Progress.TheVariants as progress
 use Rattle.script_run.specs.declared.stream.Streamed.{Streamed}
 use Rattle.script_run.specs.declared.stream.Streamed.TheVariants as streamed
-use Rattle.script_run.specs.World.{world_of}
+use Rattle.script_world.specs.World.{world_of}
 use Rattle.script_run.specs.Reach.{Place, Leaves, StopsAt, Stopped, IsCut, IsPrompt, IsSpent}
 
 abbrev pub place_in : Runner → Place

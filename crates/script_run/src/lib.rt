@@ -2,25 +2,12 @@
 //! another over a world of its own, and what they print is put piece by piece.
 #![tactic(auto)]
 
-mod acting;
-mod asking;
-mod cell;
-mod clients;
-mod contexts;
 mod cut;
-mod ending;
-mod events;
 mod lines;
-mod node;
-mod notes;
-mod requests;
-mod settle;
 mod status;
 mod stream;
 mod top;
-mod turn;
 mod words;
-mod world;
 
 pub use status::{Finish, Status};
 pub use top::run_top;

@@ -2,17 +2,17 @@ ghost use Rattle.std.specs.Prelude.{◌≡◌, ◌++◌, ◌<◌, ◌≤◌, ◌
 ghost use Rattle.run_model.specs.Run.{reached, text_of, turn};
 ghost use Rattle.script_text.specs.Script.{is_end};
 ghost use Rattle.script_text.specs.Fit.{is_fit_line};
-ghost use Rattle.script_run.specs.World.{world_of};
+ghost use Rattle.script_world.specs.World.{world_of};
 ghost use Rattle.script_text.specs.declared.limit.TheConstants.{MOST_SCRIPT};
 ghost use Rattle.script_run.specs.Top.{HasGone, place_in};
 
 use crate::cut::first_line;
-use crate::world::World;
 use host_ids::NoMemory;
 use run_model::Stop;
 use script_text::{
     Buffer, Limit, LineFault, MOST_LINE, ScriptLine, Told, Tolds, push_line, read_line,
 };
+use script_world::World;
 use std::alloc::Global;
 
 /// A run that is under way: its world, and how many lines of how

@@ -2,7 +2,7 @@ ghost use Rattle.std.specs.Prelude.{◌≡◌, ◌<◌, ◌≤◌, ◌+◌, [], 
 ghost use Rattle.std.specs.Io.KnownBytes.{IsAtEnd};
 ghost use Rattle.fault_io.specs.Faults.{HasCause, Rose};
 ghost use Rattle.run_model.specs.World.{start};
-ghost use Rattle.script_run.specs.World.{world_of};
+ghost use Rattle.script_world.specs.World.{world_of};
 ghost use Rattle.script_run.specs.Top.{HasStreamed};
 ghost use Rattle.script_run.specs.Reach.{GivenUp};
 

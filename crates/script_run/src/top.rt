@@ -1,18 +1,17 @@
 ghost use Rattle.std.specs.Prelude.{◌≡◌, ◌≢◌, ◌≤◌, true, false};
 ghost use Rattle.fault_io.specs.Faults.{Rose};
 ghost use Rattle.script_run.specs.Top.{is_run, finish_of, HasPut, Ran, IsLegalRun, Takes, Finished, usage};
-ghost use Rattle.script_run.specs.World.{world_of};
+ghost use Rattle.script_world.specs.World.{world_of};
 
-use crate::ending::print_ending;
 use crate::lines::Runner;
 use crate::status::{Finish, Status};
 use crate::stream::{Streamed, run_stream};
-use crate::world::World;
 use fault_io::{IoFault, Sink, Source, put_all};
 use host_ids::Text;
 use run_law::{runs_are_legal, scripts_end};
 use run_model::Stop;
 use script_text::Buffer;
+use script_world::{World, print_ending};
 use std::alloc::Global;
 
 /// What the stop of a run comes to.

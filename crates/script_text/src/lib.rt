@@ -17,7 +17,9 @@ pub use buffer::Buffer;
 pub use fault::LineFault;
 pub use grammar::read_line;
 pub use kind::EnvelopeKind;
-pub use limit::{Limit, MOST_APPLIED, MOST_ENTRIES, MOST_ENVELOPES, MOST_LINE, MOST_SCRIPT};
+pub use limit::{
+    Limit, MOST_APPLIED, MOST_ENTRIES, MOST_ENVELOPES, MOST_LINE, MOST_ROUNDS, MOST_SCRIPT,
+};
 pub use line::Line;
 pub use print::{print_line, push_line};
 pub use refusal::Refusal;

@@ -13,6 +13,9 @@ pub const MOST_LINE: usize = 4096;
 /// The line `apply` applies at most this number of entries.
 pub const MOST_APPLIED: u32 = 200_000;
 
+/// The line `settle` has at most this number of rounds.
+pub const MOST_ROUNDS: u32 = 64;
+
 /// A counted quantity at whose number a run stops. Source: this project's own.
 #[derive(Clone, Copy, Debug, PartialEq, Eq)]
 pub enum Limit {

@@ -14,6 +14,3 @@ pub use replies::Replies;
 pub use section::TableFault;
 pub use session::Session;
 pub use table::SessionTable;
-
-#[cfg(test)]
-mod tests;

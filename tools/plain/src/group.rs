@@ -136,7 +136,7 @@ impl Group {
         &self.member(host).machine
     }
 
-    /// Applies at most so many entries, and shows how each ends: its key, place and ending.
+    /// Applies at most `most` entries, and shows how each ends: its key, place and ending.
     pub fn apply(&mut self, host: u8, most: usize, mut show: impl FnMut(Key, usize, Ending)) {
         let Member { replica, machine } = self.member_mut(host);
         let (applied, ripe) = (machine.applied(), replica.ripe());

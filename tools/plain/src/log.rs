@@ -29,7 +29,7 @@ impl Log {
         self.term_at(self.last())
     }
 
-    /// The entries behind a place up to another one.
+    /// The entries after a place up to another one.
     pub fn between(&self, after: usize, last: usize) -> &[Rc<Entry>] {
         &self.entries[after..last]
     }
@@ -38,7 +38,7 @@ impl Log {
         self.entries.push(Rc::new(entry));
     }
 
-    /// The entries from a place on, at most so many. The newest piece is kept, since a leader
+    /// The entries from a place on, at most `most`. The newest piece is kept, since a leader
     /// sends the same one to several voters, and again.
     pub fn piece(&mut self, first: usize, most: usize) -> Piece {
         let after = first - 1;
@@ -53,7 +53,7 @@ impl Log {
         piece
     }
 
-    /// Lays entries behind a place: those up to `kept` are passed over, and from the first that is
+    /// Lays entries after a place: those up to `kept` are passed over, and from the first that is
     /// missing or of another term on they take the place of what is there. Answers that place.
     pub fn lay(&mut self, after: usize, entries: &[Rc<Entry>], kept: usize) -> Option<usize> {
         let passed = kept.saturating_sub(after).min(entries.len());

@@ -118,7 +118,7 @@ impl Replica {
         std::mem::take(&mut self.notes)
     }
 
-    /// Moves what goes on the wire behind what is there.
+    /// Moves what goes on the wire after what is there.
     pub fn move_sent(&mut self, wire: &mut Vec<Envelope>) {
         wire.append(&mut self.sent);
     }
@@ -276,7 +276,7 @@ impl Replica {
         self.release();
     }
 
-    /// The vote goes to the first who asks in a term with a log that isn't behind this one.
+    /// The vote goes to the first who asks in a term with a log that is at least as late as this one.
     fn on_vote(&mut self, from: u8, last: usize, last_term: u64) {
         let free = self.vote == 0 || self.vote == from;
         let granted = free && (last_term, last) >= (self.log.last_term(), self.log.last());

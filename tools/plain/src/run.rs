@@ -99,7 +99,7 @@ impl Run {
         stopped
     }
 
-    /// Runs a line. The limits are tried behind it, which is before it is known whether another
+    /// Runs a line. The limits are tried after it, which is before it is known whether another
     /// line comes.
     fn line(&mut self, bytes: &[u8]) -> Result<(), Stop> {
         let line = Line::parse(bytes).ok_or(Stop::BadLine)?;

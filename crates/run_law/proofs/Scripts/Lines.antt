@@ -22,7 +22,7 @@ use Rattle.script_text.specs.Print.{refusal_number}
 use Rattle.host_ids.specs.declared.proposal.TheConstants.{MOST_COMMAND}
 use Rattle.script_text.specs.declared.line.Line.TheVariants as lines
 use Rattle.run_model.specs.World.{World, is_declared, node_at}
-use Rattle.script_text.specs.declared.limit.TheConstants.{MOST_APPLIED}
+use Rattle.script_text.specs.declared.limit.TheConstants.{MOST_APPLIED, MOST_ROUNDS}
 use Rattle.host_ids.specs.declared.proposal.TheConstants.{MOST_SESSIONS}
 use Rattle.run_model.specs.Run
 use Rattle.run_model.specs.Run.{RunStep, Turn, settle, save_each, deliver_each, apply_each, turn, reached, is_used, next_key, again, asks, call, close, completed, declare, deliver, event_step, group}
@@ -295,7 +295,7 @@ module _ (P : Between) (h : IsDone P) where
   settles_turned : (size : ℕ) (w : World) → Turned w (Run.settles size w)
   unfolding settles
   settles_turned size w =
-      cond_both (Run.has_group w) (settle Run.most_rounds size w) (Run.whole (Run.refuses w refusals.NoReplica)) (Turned w) (λ _. settle_turned Run.most_rounds size w) (λ _. refused w refusals.NoReplica)
+      cond_both (Run.has_group w) (settle MOST_ROUNDS size w) (Run.whole (Run.refuses w refusals.NoReplica)) (Turned w) (λ _. settle_turned MOST_ROUNDS size w) (λ _. refused w refusals.NoReplica)
 
   -- ---- lines
 

@@ -1,11 +1,12 @@
+//! Sources and sinks that tell nothing of their bytes, and those of the standard library.
 ghost use Rattle.std.specs.Prelude.{None};
 
-use fault_io::{IoFault, MemSink, Sink, Source, StdSink, StdSource};
-use host_ids::{NoMemory, Text};
-use script_run::{run_top, words_of};
+use super::over;
+use fault_io::{IoFault, Sink, Source, StdSink, StdSource};
+use host_ids::Text;
+use std::alloc::Global;
 use std::cell::RefCell;
-use std::io;
-use std::io::ErrorKind;
+use std::process::Abort;
 use std::rc::Rc;
 use std::test::Fail;
 
@@ -71,71 +72,81 @@ impl Source for WatchingSource {
     }
 }
 
+/// The pieces of a script, with a bar between them.
+fn pieces_of(alloc: Global, script: &str) -> Result<Vec<Text>, Fail> {
+    let mut pieces = Vec::new(alloc);
+    for piece in script.split('|') {
+        pieces.push(Text::new(alloc, piece.as_bytes())?)?;
+    }
+    Ok(pieces)
+}
+
+/// A source of these pieces, beside what is written.
+fn watching(
+    alloc: Global,
+    script: &str,
+    written: Rc<RefCell<Vec<u8>>>,
+) -> Result<WatchingSource, Fail> {
+    Ok(WatchingSource {
+        pieces: pieces_of(alloc, script)?,
+        given: 0,
+        written,
+        seen: Vec::new(alloc),
+    })
+}
+
 /// What each piece prints is there when the next one is taken, and after the piece that holds the
 /// word `end` none is.
 #[test]
 fn each_answer_comes_before_the_next_take(rt: HostRuntime) -> Result<(), Fail> {
     let alloc = rt.alloc();
-    let words = vec![in alloc; Text::new(alloc, b"run")?]?;
+    let script = "host 1\nho|st 2\n# a comment|\nhost 2\nhost 3|\nend\nhost 4\n|host 5\n";
     let written = Rc::new(alloc, RefCell::new(Vec::new(alloc)))?;
-    let mut source = WatchingSource {
-        pieces: vec![in alloc;
-            Text::new(alloc, b"host 1\nho")?,
-            Text::new(alloc, b"st 2\n# a comment")?,
-            Text::new(alloc, b"\nhost 2\nhost 3")?,
-            Text::new(alloc, b"\nend\nhost 4\n")?,
-            Text::new(alloc, b"host 5\n")?,
-        ]?,
-        given: 0,
-        written: Rc::clone(&written)?,
-        seen: Vec::new(alloc),
-    };
+    let mut source = watching(alloc, script, Rc::clone(&written)?)?;
     let mut sink = SharedSink {
         written: Rc::clone(&written)?,
     };
-    let status = run_top(alloc, words.as_slice(), &mut source, &mut sink);
-    assert_eq!(rt; status.number, 0);
-    assert_eq!(rt; source.given, 4);
-    let printed = b"started 1 1\nstarted 2 1\nrefused 13\nstarted 3 1\nend\n";
+    let status = over(alloc, "run", &mut source, &mut sink)?;
+    assert_eq!(rt; (status.number, source.given), (0, 4));
     assert_eq!(rt; source.seen.as_slice(), [0, 12, 24, 35].as_slice());
+    let printed = b"started 1 1\nstarted 2 1\nrefused 13\nstarted 3 1\nend\n";
     assert!(rt; matches!(written.try_borrow(), Ok(kept) if kept.as_slice() == printed.as_slice()));
     Ok(())
+}
+
+/// A take over a slice of std moves this many bytes, and this is in the buffer then.
+fn takes(
+    rt: &impl Abort,
+    source: &mut StdSource<&[u8]>,
+    into: &mut [u8],
+    count: usize,
+    wanted: &[u8],
+) -> Result<(), Fail> {
+    assert_eq!(rt; source.take(into), Ok(count));
+    assert_eq!(rt; &*into, wanted);
+    Ok(())
+}
+
+/// What is in the buffer after the bytes that came stays there.
+#[test]
+fn a_short_take_leaves_the_rest(rt: HostRuntime) -> Result<(), Fail> {
+    let mut source = StdSource::new(b"abc".as_slice());
+    let mut into = [0; 2];
+    takes(&rt, &mut source, &mut into, 2, b"ab")?;
+    takes(&rt, &mut source, &mut into, 1, b"cb")?;
+    takes(&rt, &mut source, &mut into, 0, b"cb")
 }
 
 /// Over a reader and a writer of std that tell their bytes the program is as it is over memory.
 #[test]
 fn over_a_slice_and_a_vector(rt: HostRuntime) -> Result<(), Fail> {
     let alloc = rt.alloc();
-    let words = vec![in alloc; Text::new(alloc, b"run")?]?;
     let mut written = Vec::new(alloc);
     let script: &[u8] = b"host 1\nend\n";
     let mut source = StdSource::new(script);
     let mut sink = StdSink::new(&mut written);
-    let status = run_top(alloc, words.as_slice(), &mut source, &mut sink);
+    let status = over(alloc, "run", &mut source, &mut sink)?;
     assert_eq!(rt; status.number, 0);
     assert_eq!(rt; written.as_slice(), b"started 1 1\nend\n".as_slice());
-    Ok(())
-}
-
-/// Memory that runs out before the words are there is no usage, and arguments that are no text are.
-#[test]
-fn words_of_a_process(rt: HostRuntime) -> Result<(), Fail> {
-    let alloc = rt.alloc();
-    let given = vec![in alloc;
-        String::from_str(alloc, "nodehost")?,
-        String::from_str(alloc, "run")?,
-    ]?;
-    let words = words_of(alloc, Ok(given.into_iter()))?;
-    assert_eq!(rt; words.len(), 1);
-    assert_eq!(rt; words[0].bytes(), b"run".as_slice());
-    let no_memory = words_of(alloc, Err(io::Error::from(ErrorKind::OutOfMemory)));
-    assert!(rt; matches!(no_memory, Err(NoMemory)));
-    let no_text = words_of(alloc, Err(io::Error::from(ErrorKind::InvalidData)))?;
-    assert_eq!(rt; no_text.len(), 0);
-    let mut source = StdSource::new(b"host 1\nend\n".as_slice());
-    let mut sink = MemSink::new(alloc, &[])?;
-    let status = run_top(alloc, no_text.as_slice(), &mut source, &mut sink);
-    assert_eq!(rt; status.number, 2);
-    assert_eq!(rt; sink.bytes(), b"usage\n".as_slice());
     Ok(())
 }

@@ -1,6 +1,6 @@
 use Rattle.std.proofs.Common.{◌≡◌, refl, sym, ◌∙◌, ap, ◌++◌, ◌+◌, List, ℕ, None, length, append_assoc, arith}
 use Rattle.run_model.specs.Run.{turn, reached, text_of}
-use Rattle.script_run.specs.World.{world_of}
+use Rattle.script_world.specs.World.{world_of}
 use Rattle.script_run.proofs.Runs.{ends, at_limit, at_bad, at_end, at_long, next_ahead, full_reached, reached_below}
 use Rattle.script_run.proofs.lines.run_whole.Goals as goal
 

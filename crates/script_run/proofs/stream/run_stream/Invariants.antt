@@ -1,7 +1,7 @@
 use Rattle.std.proofs.Common.{◌≡◌, ◌+◌, ◌-◌, ◌≤◌, ◌<◌, List, ℕ, None, length}
 use Rattle.run_model.specs.Run.{reached}
 use Rattle.script_text.specs.declared.limit.TheConstants.{MOST_LINE, MOST_SCRIPT}
-use Rattle.script_run.specs.World.{world_of}
+use Rattle.script_world.specs.World.{world_of}
 use Rattle.script_run.specs.Top.{place_in}
 use Rattle.script_run.specs.Reach.{HasNoFeed}
 use Rattle.script_run.proofs.Streams.{Under}

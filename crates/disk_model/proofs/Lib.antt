@@ -1,0 +1,11 @@
+pub mod Lists
+pub mod Changes
+pub mod Entries
+pub mod Changed
+pub mod Moments
+pub mod Crashes
+pub mod Plain
+pub mod Settled
+pub mod Numbers
+pub mod Lost
+pub mod Shelves

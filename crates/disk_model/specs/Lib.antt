@@ -1,0 +1,12 @@
+pub mod Bytes
+pub mod Crash
+pub mod Files
+pub mod Plan
+pub mod State
+pub mod Calls
+pub mod Undo
+pub mod Held
+pub mod Depot
+pub mod Memory
+pub mod Plain
+pub mod Shelf

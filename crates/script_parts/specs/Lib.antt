@@ -1,0 +1,4 @@
+pub mod Fit
+pub mod Index
+pub mod Due
+pub mod Cell

@@ -1,0 +1,4 @@
+pub mod Fits
+pub mod Lanes
+pub mod Settles
+pub mod Hearing

@@ -1,0 +1,4 @@
+pub mod Fit
+pub mod Parts
+pub mod World
+pub mod Took

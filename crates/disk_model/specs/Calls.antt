@@ -49,12 +49,12 @@ pub record Reads (bytes : List ℕ) (at n : ℕ) (old new : List ℕ) : Type 0 w
   pub count : n ≡ min (length old) (length bytes - at)
   pub moved : new ≡ take n (drop at bytes) ++ drop n old
 
--- what becomes of a plan: a call fails exactly where the plan has it, and then it only counts, as where memory ran out
-abbrev pub Becomes : {T : Type 0} → Plan → (Plan → Plan) → Result T DiskFault → Option Plan → Type 0
-Becomes p done (Ok _) new = (fails p ≡ false) × (new ≡ Some (done (counted p)))
-Becomes p done (Err Failed) new = (fails p ≡ true) × (new ≡ Some (counted p))
-Becomes p done (Err NoMemory) new = (fails p ≡ false) × (new ≡ Some (counted p))
+-- what becomes of a plan: a call fails exactly where the plan has it, and then it only counts, as where memory ran out; a fault is counted where the call failed, and nowhere else
+abbrev pub Becomes : {T : Type 0} → Plan → (Plan → Plan) → Result T DiskFault → DiskState → DiskState → Type 0
+Becomes p done (Ok _) old new = (fails p ≡ false) × (new.plan ≡ Some (done (counted p))) × (new.faults ≡ old.faults)
+Becomes p done (Err Failed) old new = (fails p ≡ true) × (new.plan ≡ Some (counted p)) × (new.faults ≡ one_more old.faults)
+Becomes p done (Err NoMemory) old new = (fails p ≡ false) × (new.plan ≡ Some (counted p)) × (new.faults ≡ old.faults)
 
 -- where a plan is told, a call does what it has
 abbrev pub Planned : {T : Type 0} → DiskState → DiskState → (Plan → Plan) → Result T DiskFault → Type 0
-Planned old new done result = (p : Plan) → old.plan ≡ Some p → Becomes p done result new.plan
+Planned old new done result = (p : Plan) → old.plan ≡ Some p → Becomes p done result old new

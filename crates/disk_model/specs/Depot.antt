@@ -38,7 +38,7 @@ pub record Replanned (step : Plan → Plan) (old new : DiskState) : Type 0 where
   pub faults : new.faults ≡ old.faults
   pub plan : new.plan ≡ option_map step old.plan
 
--- no more than so many further calls are let through
+-- `calls` further calls are let through, and no more
 pub record Armed (calls : ℕ) (old new : DiskState) : Type 0 where
   pub rests : Replanned (armed calls) old new
   pub honest : old.honest → new.honest

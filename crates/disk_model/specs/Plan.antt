@@ -39,7 +39,7 @@ counted p = record p { made = one_more p.made }
 abbrev pub with_files : (Files → Files) → Plan → Plan
 with_files step p = record p { files = step p.files }
 
--- no more than so many further calls succeed
+-- `calls` further calls are let through, and no more
 abbrev pub armed : ℕ → Plan → Plan
 armed calls p = record p { last = Some (min (p.made + calls) (2 ^ 64 - 1)) }
 

@@ -78,7 +78,7 @@ impl Calls {
         Ok(())
     }
 
-    /// Lets so many further calls through; those after them fail.
+    /// Lets `calls` further calls through; those after them fail.
     pub(crate) fn arm(&mut self, calls: u64)
         ensures made { self.new.made ≡ self.old.made }
         ensures failing { self.new.failing.items ≡ self.old.failing.items }

@@ -10,7 +10,7 @@ use std::marker::Model;
 /// What a call did to the bytes of a file.
 #[derive(Drop)]
 pub(crate) enum Action {
-    /// So many bytes were written at this place.
+    /// `count` bytes were written at this place.
     Write { at: usize, count: usize },
     /// The file was made this long.
     Cut { size: usize },

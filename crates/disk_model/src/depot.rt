@@ -50,7 +50,7 @@ pub trait Depot {
         ensures arms { KeepsCounts arms self.old self.new }
         ensures kept { KeepsCounts faults_at_take self.old self.new };
 
-    /// Lets so many further calls of the host's disk through. Each call after them fails, until
+    /// Lets `calls` further calls of the host's disk through. Each call after them fails, until
     /// the next loss of its power. The disk's bytes and its count of faults stay.
     fn arm(&mut self, host: u8, calls: u64)
         requires { IsHost host }

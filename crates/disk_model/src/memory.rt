@@ -76,7 +76,7 @@ impl MemDisk {
         Ok(())
     }
 
-    /// Lets so many further calls through; those after them fail.
+    /// Lets `calls` further calls through; those after them fail.
     pub(crate) fn arm(&mut self, calls: u64)
         ensures plan { plan_of self.new ≡ armed calls (plan_of self.old) }
         ensures rests { Rests self.old self.new }

@@ -35,7 +35,7 @@ fn write<D: Disk>(alloc: Global, disk: &mut D, words: &mut Words<'_>) -> Result<
     Ok(done_text(alloc, disk.write_at(file, at, bytes))?)
 }
 
-/// Writes a word at the end of a file, and makes sure of it, so many times.
+/// Writes a word at the end of a file, and makes sure of it, as often as the line says.
 fn append<D: Disk>(alloc: Global, disk: &mut D, words: &mut Words<'_>) -> Result<String, Flaw> {
     let file = words.number()?;
     let times = words.number()?;

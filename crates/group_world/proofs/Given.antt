@@ -7,8 +7,8 @@ use Rattle.std.specs.Prelude.{◌==◌, ◌&&◌, not, nat_le, nat_lt, length, I
 use Rattle.host_ids.specs.declared.entry.Key.{Key}
 use Rattle.host_ids.specs.declared.proposal.Proposal.{Proposal}
 use Rattle.host_ids.specs.declared.proposal.Proposal.TheVariants as proposals
-use Rattle.wire_codec.specs.Grammar.{is_key, is_proposal, is_blank, is_request, is_command, are_fit_numbers, is_piece}
-use Rattle.wire_codec.specs.declared.grammar.TheConstants.{MOST_PIECE}
+use Rattle.wire_types.specs.Grammar.{is_key, is_proposal, is_blank, is_request, is_command, are_fit_numbers, is_piece}
+use Rattle.wire_types.specs.declared.grammar.TheConstants.{MOST_PIECE}
 use Rattle.raft_model.specs.declared.chunk.Chunk.{Chunk}
 use Rattle.raft_model.specs.declared.input.Input.TheVariants as inputs
 use Rattle.raft_model.specs.declared.state.Inbox.{Inbox}

@@ -1,7 +1,7 @@
 -- A group as the definitions have it, from the parts that the code keeps; and what holds of these. Source: this project's own.
 use Rattle.std.specs.Prelude.{◌≡◌, ◌≤◌, ◌⊎◌, ℕ, Bool, false, List, [], ◌∷◌, map, length, replicate}
 use Rattle.std.specs.List.{All}
-use Rattle.wire_codec.specs.declared.envelope.Envelope.{Envelope}
+use Rattle.wire_types.specs.declared.envelope.Envelope.{Envelope}
 use Rattle.roster.specs.Roster.{Seat}
 use Rattle.raft_model.specs.Group.{Group}
 use Rattle.raft_core.specs.Core.{Core, begun}

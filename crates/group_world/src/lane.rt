@@ -25,7 +25,7 @@ use raft_core::{LaneEvent, LaneFault, Note, Received, Role};
 use raft_safety::{runs_as_one, runs_go_on};
 use std::alloc::Global;
 use std::marker::Model;
-use wire_codec::Envelope;
+use wire_types::Envelope;
 
 /// A group as one value: its replicas, which of them are up, the wire with every envelope ever sent,
 /// what each replica has saved, and the one decided list.

@@ -118,20 +118,3 @@ fn scripts_are_run(rt: HostRuntime) -> Result<(), Fail> {
     );
     Ok(())
 }
-
-#[test]
-fn stale_answers_are_of_their_queries(rt: HostRuntime) -> Result<(), Fail> {
-    let script =
-        "= script 1 two hosts/host 1/host 2/stale 1 1 get y/stale 2 1 count/group 1 regular 1,2/timeout 1 1/settle 1/stale 1 1 count/ask 1 1 a put x 5/settle 1/stale 2 1 get x/stale 1 1 get x/stale 3 1 count/stale 2 1 count/stale 1 1 count/end/stale 1 1 get x";
-    assert_eq!(rt;
-        said(&rt, script)?.as_str(),
-        "legal two hosts: 17 lines, 2 entries, 1 done, 0 reads, 5 stale, 1 leaders/"
-    );
-    let output =
-        "= output 1 in order/> stale 1 1 get x/stale 1 1 1 -/> stale 2 1 count/> stale 1 1 count/stale 2 1 0 0/stale 1 1 1 0/entry 1 1 - blank/end";
-    assert_eq!(rt; said(&rt, output)?.as_str(), "legal in order/");
-    let output =
-        "= output 1 turned round/> stale 1 1 get x/stale 1 1 1 0/> stale 1 1 count/stale 1 1 1 -/entry 1 1 - blank/end";
-    assert_eq!(rt; said(&rt, output)?.as_str(), "not legal turned round/");
-    Ok(())
-}

@@ -1,4 +1,5 @@
-//! A test of a lane: drawn events beside the same given to replicas by themselves.
+//! Tests of a lane, with drawn events beside the same given to replicas by themselves, and of what a log
+//! remembers of its entries.
 #![tactic(auto)]
 
 #[cfg(test)]

@@ -1,6 +1,8 @@
 ghost use Rattle.std.specs.Prelude.{◌≡◌, ◌≤◌, ◌<◌, length};
 ghost use Rattle.std.specs.List.{All};
 
+mod logs;
+
 use group_world::Lane;
 use host_ids::{Key, Proposal};
 use raft_core::{Input, LaneEvent, LaneFault, Note, Replica, Role};
@@ -9,7 +11,7 @@ use rand_pcg::Pcg32;
 use std::alloc::Global;
 use std::process::Abort;
 use std::test::Fail;
-use wire_codec::{Envelope, is_key, is_request};
+use wire_types::{Envelope, is_key, is_request};
 
 /// An event, with the numbers that it takes.
 #[derive(Clone, Copy)]

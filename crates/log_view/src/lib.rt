@@ -6,6 +6,3 @@ mod ranges;
 mod tally;
 
 pub use log::Log;
-
-#[cfg(test)]
-mod tests;

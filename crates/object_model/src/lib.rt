@@ -22,6 +22,3 @@ pub use legal::{entries, is_legal};
 pub use mark::{Ending, Mark, Placed, What};
 pub use places::{answer_after, reply_at, standing_after, verdict_at};
 pub use words::{Words, is_key, is_name, is_value, number_of};
-
-#[cfg(test)]
-mod tests;

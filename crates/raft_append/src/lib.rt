@@ -11,6 +11,3 @@ pub use append::on_append;
 pub use commit::commit_candidate;
 pub use progress::on_append_reply;
 pub use raft_model::{Appended, Progress};
-
-#[cfg(test)]
-mod tests;

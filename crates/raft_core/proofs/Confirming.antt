@@ -3,7 +3,7 @@ use Rattle.std.proofs.Common.{◌≡◌, ◌∙◌, List, [], ◌∷◌, ◌++�
 use Rattle.std.proofs.lemmas.List.{append_assoc, append-nil}
 use Rattle.std.specs.Prelude.{◌==◌}
 use Rattle.std.specs.List.{All}
-use Rattle.wire_codec.specs.declared.envelope.Body.TheVariants as bodies
+use Rattle.wire_types.specs.declared.envelope.Body.TheVariants as bodies
 use Rattle.read_index.specs.declared.reads.OpenRead.{OpenRead}
 use Rattle.raft_model.specs.declared.note.Note.{Note}
 use Rattle.raft_model.specs.declared.note.Note.TheVariants as notes

@@ -1,6 +1,6 @@
 -- A replica as its callers see it: its place, its state, and what it has released to be sent.
 use Rattle.std.specs.Prelude.{ℕ, List, []}
-use Rattle.wire_codec.specs.declared.envelope.Envelope.{Envelope}
+use Rattle.wire_types.specs.declared.envelope.Envelope.{Envelope}
 use Rattle.raft_model.specs.declared.state.State.{State}
 use Rattle.roster.specs.Roster.{Seat}
 use Rattle.raft_model.specs.Replica.{fresh}

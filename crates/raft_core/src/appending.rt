@@ -9,7 +9,7 @@ use crate::sending::{append_to_one, is_leader_role, lower, send};
 use host_ids::{Entries, NoMemory};
 use raft_append::{Appended, Progress, commit_candidate, on_append, on_append_reply};
 use raft_model::{Role, State};
-use wire_codec::Body;
+use wire_types::Body;
 
 /// The replica follows the sender.
 pub(crate) fn follow(r: &mut State, from: u8)

@@ -8,7 +8,7 @@ use crate::seat::Seat;
 use crate::sending::{append_to_others, is_full_now, is_leader_role, lower, send_in};
 use host_ids::{Entry, Key, NoMemory, Proposal};
 use raft_model::State;
-use wire_codec::Body;
+use wire_types::Body;
 
 /// An entry of the term at the end of the log.
 fn append(r: &mut State, key: Key, proposal: Proposal) -> Result<(), NoMemory>

@@ -11,7 +11,7 @@ use crate::sending::{is_full_now, is_leader_role, send, send_in};
 use host_ids::{Key, NoMemory};
 use raft_model::{Note, State};
 use read_index::OpenRead;
-use wire_codec::Body;
+use wire_types::Body;
 
 /// A Beat, whose term was taken over.
 pub(crate) fn beat_row(

@@ -26,7 +26,7 @@ use raft_model::{Input, Note, Received, Role, State};
 use std::alloc::Global;
 use std::collections::VecDeque;
 use std::marker::Model;
-use wire_codec::{Envelope, Envelopes};
+use wire_types::{Envelope, Envelopes};
 
 /// One replica of a group.
 ///

@@ -14,7 +14,7 @@ use crate::snapping::{chunk_row, compact_row, installed_row, send_chunk, snap_re
 use crate::voting::{timeout_row, vote_reply_row, vote_row};
 use host_ids::{Key, NoMemory};
 use raft_model::{Chunk, Input, Note, State};
-use wire_codec::Body;
+use wire_types::Body;
 
 /// An envelope's term is taken over.
 #[tactic(auto, using(crate::proofs::Steps::in_term_kept))]

@@ -5,7 +5,7 @@ ghost use Rattle.raft_model.specs.Replica.{sent, sent_in, append_to, each_other,
 use crate::seat::Seat;
 use host_ids::NoMemory;
 use raft_model::{Role, State};
-use wire_codec::{AppendHead, Body, Envelope, MOST_ENTRIES};
+use wire_types::{AppendHead, Body, Envelope, MOST_ENTRIES};
 
 /// An envelope of the replica's term is held.
 pub(crate) fn send(seat: &Seat, r: &mut State, to: u8, body: Body) -> Result<(), NoMemory>

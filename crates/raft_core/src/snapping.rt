@@ -12,7 +12,7 @@ use host_ids::{NoMemory, Text};
 use log_view::Log;
 use raft_model::{Chunk, Inbox, Received, State};
 use std::alloc::Global;
-use wire_codec::Body;
+use wire_types::Body;
 
 /// Whether two pieces are of one series.
 fn belong(a: &Chunk, b: &Chunk) -> bool

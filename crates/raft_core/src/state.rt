@@ -5,7 +5,7 @@ use log_view::Log;
 use raft_model::{Chunks, Role, State, Taken};
 use read_index::Reads;
 use std::alloc::Global;
-use wire_codec::Envelopes;
+use wire_types::Envelopes;
 
 /// The state of a replica that has just begun, which takes no memory.
 pub(crate) fn fresh_state(alloc: Global) -> State

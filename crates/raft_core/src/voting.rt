@@ -11,7 +11,7 @@ use host_ids::{Key, NoMemory, Proposal};
 use raft_model::{Role, State};
 use raft_vote::{Election, campaign, on_vote, on_vote_reply};
 use read_index::Reads;
-use wire_codec::Body;
+use wire_types::Body;
 
 /// What of the replica its votes depend on.
 fn election_of(r: &State) -> Election

@@ -4,7 +4,7 @@ ghost use Rattle.raft_core.specs.Range.{BodyWithin, IsMail, IsWithin};
 
 use host_ids::{Entry, Proposal};
 use raft_model::{Input, State};
-use wire_codec::{Body, Envelope, are_fit_numbers};
+use wire_types::{Body, Envelope, are_fit_numbers};
 
 /// The greatest term and index.
 const MOST: u64 = 1 << 62;

@@ -1,6 +1,6 @@
 -- The parts of a replica that entries stand in, or that say where they stand, and the other numbers that its rows count with. Source: this project's own.
 use Rattle.std.specs.Prelude.{ℕ, List, Option}
-use Rattle.wire_codec.specs.declared.envelope.Envelope.{Envelope}
+use Rattle.wire_types.specs.declared.envelope.Envelope.{Envelope}
 use Rattle.raft_model.specs.declared.chunk.Chunk.{Chunk}
 use Rattle.raft_model.specs.declared.state.Inbox.{Inbox}
 use Rattle.raft_model.specs.declared.role.Role.{Role}

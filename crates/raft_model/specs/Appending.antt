@@ -1,7 +1,7 @@
 -- The rows of Append and AppendReply. Source: dissertation section 3.5; hints and what is passed over are this project's own.
 use Rattle.std.specs.Prelude.{ℕ, ◌+◌, ◌-◌, ◌==◌, ◌||◌, ◌&&◌, List, Bool, true, false, not, nat_lt, nat_le, min, max, length, Option, Some, None, slice_set, if◌then◌else◌}
 use Rattle.host_ids.specs.declared.entry.Entry.{Entry}
-use Rattle.wire_codec.specs.declared.envelope.Body.TheVariants as bodies
+use Rattle.wire_types.specs.declared.envelope.Body.TheVariants as bodies
 use Rattle.raft_model.specs.declared.role.Role.TheVariants.{Follower}
 use Rattle.raft_model.specs.declared.progress.Appended.{Appended}
 use Rattle.raft_model.specs.declared.progress.Appended.TheVariants.{Refused, Stored}

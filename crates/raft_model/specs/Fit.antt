@@ -4,7 +4,7 @@ use Rattle.std.specs.List.{list_all}
 use Rattle.host_ids.specs.declared.entry.Entry.{Entry}
 use Rattle.host_ids.specs.declared.proposal.Proposal.{Proposal}
 use Rattle.host_ids.specs.declared.proposal.Proposal.TheVariants as proposals
-use Rattle.wire_codec.specs.Grammar.{are_fit_numbers}
+use Rattle.wire_types.specs.Grammar.{are_fit_numbers}
 
 -- the numbers of a proposal, where it has any, are in these ranges
 abbrev pub is_fit : Proposal → Bool

@@ -1,6 +1,6 @@
 -- When an event of a group is refused, and what an event must meet. Source: this project's own.
 use Rattle.std.specs.Prelude.{◌≡◌, ◌≤◌, ◌<◌, ◌^◌, ◌==◌, ℕ, Bool, true, false, not, nat_le, Option, Some, None, ⊤, if◌then◌else◌}
-use Rattle.wire_codec.specs.Grammar.{is_key, is_request, is_piece}
+use Rattle.wire_types.specs.Grammar.{is_key, is_request, is_piece}
 use Rattle.raft_model.specs.declared.chunk.Chunk.{Chunk}
 use Rattle.raft_model.specs.declared.event.LaneEvent.{LaneEvent}
 use Rattle.raft_model.specs.declared.event.LaneEvent.TheVariants as events

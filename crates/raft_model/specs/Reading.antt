@@ -1,7 +1,7 @@
 -- The rows of Beat, BeatReply, ReadAsk and ReadAnswer, of the script's beat and of the local read. Source: dissertation section 6.4; the round 0 for a beat of a smaller term is this project's own: rounds begin at 1, so it confirms nothing.
 use Rattle.std.specs.Prelude.{ℕ, ◌==◌, ◌||◌, ◌&&◌, List, [], ◌∷◌, ◌++◌, Bool, not, nat_lt, min, max, if◌then◌else◌}
 use Rattle.host_ids.specs.declared.entry.Key.{Key}
-use Rattle.wire_codec.specs.declared.envelope.Body.TheVariants as bodies
+use Rattle.wire_types.specs.declared.envelope.Body.TheVariants as bodies
 use Rattle.read_index.specs.declared.reads.OpenRead.{OpenRead}
 use Rattle.read_index.specs.Reads as index
 use Rattle.raft_model.specs.declared.note.Note.TheVariants as notes

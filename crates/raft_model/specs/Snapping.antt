@@ -2,7 +2,7 @@
 use Rattle.std.specs.Prelude.{ℕ, ◌+◌, ◌==◌, ◌&&◌, List, [], ◌∷◌, ◌++◌, Bool, true, false, not, nat_lt, nat_le, max, length, Option, Some, None, if◌then◌else◌}
 use Rattle.std.specs.List.{flat_map}
 use Rattle.raft_model.specs.declared.chunk.Chunk.{Chunk}
-use Rattle.wire_codec.specs.declared.envelope.Body.TheVariants as bodies
+use Rattle.wire_types.specs.declared.envelope.Body.TheVariants as bodies
 use Rattle.roster.specs.Roster.{Seat}
 use Rattle.log_view.specs.Log.{Log, last, term_at, cut_front, reset}
 use Rattle.raft_model.specs.declared.state.State.{State as Replica}

@@ -1,8 +1,8 @@
 -- The step table: which row an input meets, and what goes on the wire after it. Source: dissertation chapter 3; the held envelopes are this project's own.
 use Rattle.std.specs.Prelude.{ℕ, List, [], ◌++◌, Option, Some, None, if◌then◌else◌}
-use Rattle.wire_codec.specs.declared.envelope.Envelope.{Envelope}
-use Rattle.wire_codec.specs.declared.envelope.Body.{Body}
-use Rattle.wire_codec.specs.declared.envelope.Body.TheVariants as bodies
+use Rattle.wire_types.specs.declared.envelope.Envelope.{Envelope}
+use Rattle.wire_types.specs.declared.envelope.Body.{Body}
+use Rattle.wire_types.specs.declared.envelope.Body.TheVariants as bodies
 use Rattle.host_ids.specs.declared.batch.Batch.{Batch}
 use Rattle.raft_model.specs.declared.input.Input.{Input}
 use Rattle.raft_model.specs.declared.input.Input.TheVariants as inputs

@@ -1,6 +1,6 @@
 -- The rows of Timeout, Vote and VoteReply. Source: dissertation sections 3.4 and 3.6.
 use Rattle.std.specs.Prelude.{ℕ, ◌+◌, ◌==◌, ◌||◌, ◌&&◌, List, Bool, true, not, nat_lt, nat_le, slice_set, if◌then◌else◌}
-use Rattle.wire_codec.specs.declared.envelope.Body.TheVariants as bodies
+use Rattle.wire_types.specs.declared.envelope.Body.TheVariants as bodies
 use Rattle.raft_model.specs.declared.election.Election.{Election}
 use Rattle.raft_model.specs.declared.role.Role.TheVariants.{Candidate}
 use Rattle.roster.specs.Roster.{Seat, is_set, none_set, is_majority}

@@ -1,6 +1,6 @@
 use crate::chunk::Chunk;
 use host_ids::{Key, Proposal};
-use wire_codec::Envelope;
+use wire_types::Envelope;
 
 /// What a replica is given, but for the taking and the saving of a batch. Source: dissertation
 /// chapters 3, 5 and 6; that nothing happens by a clock of its own is this project's own.

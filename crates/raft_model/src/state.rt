@@ -3,7 +3,7 @@ use crate::role::Role;
 use host_ids::{Batch, Text};
 use log_view::Log;
 use read_index::Reads;
-use wire_codec::Envelopes;
+use wire_types::Envelopes;
 
 /// A batch that is being saved, with the envelopes that wait for it. Source: this project's own.
 #[derive(Debug, Drop)]

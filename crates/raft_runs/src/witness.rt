@@ -5,7 +5,7 @@
 //! (`specs/Witness/Sentences`), and the law says that it fails in a group that allowed events lead to.
 
 ghost use Rattle.std.specs.Prelude.{◌≡◌, [], ◌∷◌, ◌++◌, true, Some, slice_get};
-ghost use Rattle.wire_codec.specs.declared.envelope.Body.TheVariants as bodies;
+ghost use Rattle.wire_types.specs.declared.envelope.Body.TheVariants as bodies;
 ghost use Rattle.raft_model.specs.declared.note.Note.TheVariants as notes;
 ghost use Rattle.raft_runs.specs.Followed as followed;
 ghost use Rattle.raft_runs.specs.Minority as minority;

@@ -2,9 +2,9 @@
 -- Source: this project's own.
 use Rattle.std.specs.Prelude.{◌≡◌, ◌≢◌, ◌⊎◌, ℕ, ◌+◌, ◌≤◌, List, [], ◌∷◌, length, take, drop, min, true}
 use Rattle.host_ids.specs.declared.entry.Entry.{Entry}
-use Rattle.wire_codec.specs.declared.envelope.Envelope.{Envelope}
-use Rattle.wire_codec.specs.declared.envelope.Body.{Body}
-use Rattle.wire_codec.specs.declared.envelope.Body.TheVariants as bodies
+use Rattle.wire_types.specs.declared.envelope.Envelope.{Envelope}
+use Rattle.wire_types.specs.declared.envelope.Body.{Body}
+use Rattle.wire_types.specs.declared.envelope.Body.TheVariants as bodies
 use Rattle.raft_model.specs.Group.{term_of, is_decided}
 use Rattle.raft_safety.specs.History.{Reign, History, IsLed, Agree, HoldsUpTo, IsOld}
 use Rattle.raft_safety.specs.Replicas.{Stage, IsSecured}

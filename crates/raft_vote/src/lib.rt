@@ -5,6 +5,3 @@ mod vote;
 
 pub use raft_model::Election;
 pub use vote::{campaign, on_vote, on_vote_reply};
-
-#[cfg(test)]
-mod tests;

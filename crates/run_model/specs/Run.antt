@@ -13,9 +13,9 @@ use Rattle.host_ids.specs.declared.proposal.TheConstants.{MOST_COMMAND, MOST_SER
 use Rattle.host_ids.specs.declared.proposal.Proposal.TheVariants as proposals
 use Rattle.host_ids.specs.declared.verdict.Verdict.{Verdict}
 use Rattle.host_ids.specs.declared.verdict.Verdict.TheVariants as verdicts
-use Rattle.wire_codec.specs.declared.envelope.Envelope.{Envelope}
-use Rattle.wire_codec.specs.declared.envelope.Body.{Body}
-use Rattle.wire_codec.specs.declared.envelope.Body.TheVariants as bodies
+use Rattle.wire_types.specs.declared.envelope.Envelope.{Envelope}
+use Rattle.wire_types.specs.declared.envelope.Body.{Body}
+use Rattle.wire_types.specs.declared.envelope.Body.TheVariants as bodies
 use Rattle.log_view.specs.Log.{last}
 use Rattle.object_model.specs.declared.mark.Ending.{Ending}
 use Rattle.object_model.specs.Object.{answer, key_order as text_order}

@@ -1,7 +1,7 @@
 -- What the sessions ask of their numbers.
 use Rattle.std.specs.Prelude.{ℕ, List, Bool, true, ◌&&◌, Option, Some, None}
 use Rattle.std.specs.List.{list_all}
-use Rattle.wire_codec.specs.Grammar.{is_command, are_fit_numbers}
+use Rattle.wire_types.specs.Grammar.{is_command, are_fit_numbers}
 use Rattle.run_model.specs.declared.client.ClientSession.{ClientSession}
 
 abbrev pub is_fit_outstanding : Option (List ℕ) → Bool

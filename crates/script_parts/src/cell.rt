@@ -2,7 +2,7 @@ ghost use Rattle.std.specs.Prelude.{◌≡◌, ◌++◌, ◌+◌, ◌<◌, ◌�
 ghost use Rattle.run_model.specs.Run.{answer_line, answer_told, answered, applied, applied_by, bare, ended, ending_of, given, shows, stale_answer, want_of, without};
 ghost use Rattle.script_parts.specs.Cell.{cell_of};
 ghost use Rattle.raft_model.specs.Fit.{are_fit, is_fit};
-ghost use Rattle.wire_codec.specs.Grammar.{are_fit_numbers};
+ghost use Rattle.wire_types.specs.Grammar.{are_fit_numbers};
 ghost use Rattle.host_ids.specs.declared.proposal.TheConstants.{MOST_SESSIONS};
 
 use crate::contexts::Contexts;

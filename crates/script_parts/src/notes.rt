@@ -7,7 +7,7 @@ use host_ids::NoMemory;
 use raft_model::Note;
 use script_text::{EnvelopeKind, Line, Tolds};
 use std::alloc::Global;
-use wire_codec::Body;
+use wire_types::Body;
 
 /// Tells the line of a note, where it has one.
 fn tell_note(alloc: Global, note: Note, out: &mut Tolds) -> Result<(), NoMemory>

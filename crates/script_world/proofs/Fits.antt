@@ -4,7 +4,7 @@ use Rattle.std.proofs.lemmas.Bool.{and_parts}
 use Rattle.std.proofs.lemmas.Bool.Decides.{nat_tests}
 use Rattle.log_view.specs.Log.{Log, slice}
 use Rattle.std.proofs.lemmas.List.{length-take}
-use Rattle.wire_codec.specs.Grammar.{are_fit_numbers, is_command}
+use Rattle.wire_types.specs.Grammar.{are_fit_numbers, is_command}
 use Rattle.host_ids.specs.declared.proposal.Proposal.{Proposal}
 use Rattle.host_ids.specs.declared.proposal.Proposal.TheVariants as proposals
 use Rattle.raft_model.specs.Saving.{payload}

@@ -2,7 +2,7 @@
 use Rattle.std.specs.Prelude.{Bool, false, not, ◌&&◌, nat_le}
 use Rattle.host_ids.specs.declared.proposal.Proposal.{Proposal}
 use Rattle.host_ids.specs.declared.proposal.Proposal.TheVariants as proposals
-use Rattle.wire_codec.specs.Grammar.{are_fit_numbers, is_proposal, is_blank}
+use Rattle.wire_types.specs.Grammar.{are_fit_numbers, is_proposal, is_blank}
 use Rattle.script_text.specs.Fit.{is_filled}
 
 -- what is asked, whose command may be too long

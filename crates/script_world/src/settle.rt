@@ -1,7 +1,7 @@
 ghost use Rattle.std.specs.Prelude.{◌≡◌, ◌<◌, ◌++◌, ◌+◌, ◌^◌, true, OnOk, IfOk};
 ghost use Rattle.std.specs.List.{list_all, list_any};
 ghost use Rattle.run_model.specs.Run.{apply_each, apply_tried, deliver_each, deliver_next, is_busy, is_ripe, is_unsaved, round, second_half, save_each, save_tried, settle, settles, unsettled};
-ghost use Rattle.wire_codec.specs.Grammar.{is_host};
+ghost use Rattle.wire_types.specs.Grammar.{is_host};
 ghost use Rattle.script_world.specs.World.{world_of};
 ghost use Rattle.script_world.specs.Took.{Took, Turned};
 ghost use Rattle.script_text.specs.declared.limit.TheConstants.{MOST_ROUNDS};

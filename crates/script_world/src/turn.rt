@@ -4,7 +4,7 @@ ghost use Rattle.run_model.specs.World.{is_declared, new_node, start};
 ghost use Rattle.run_model.specs.Run.{asks, at_replica, declare, event_step, group, grouped, turn};
 ghost use Rattle.script_world.specs.Fit.{is_ask};
 ghost use Rattle.script_text.specs.Fit.{is_fit_limit, is_fit_line, is_fit_roster};
-ghost use Rattle.wire_codec.specs.Grammar.{is_host};
+ghost use Rattle.wire_types.specs.Grammar.{is_host};
 ghost use Rattle.raft_model.specs.Group.{fresh_group};
 ghost use Rattle.raft_model.specs.Saving.{payload};
 ghost use Rattle.script_world.specs.World.{world_of};

@@ -1,6 +1,6 @@
 ghost use Rattle.std.specs.Prelude.{◌≡◌, true, false, length};
 ghost use Rattle.std.specs.List.{list_all};
-ghost use Rattle.wire_codec.specs.Grammar.{is_host};
+ghost use Rattle.wire_types.specs.Grammar.{is_host};
 
 use group_world::Lane;
 use script_parts::{Clients, Contexts, Node};

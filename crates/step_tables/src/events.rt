@@ -6,7 +6,7 @@ use group_world::Lane;
 use host_ids::{Key, Proposal};
 use raft_core::{Chunk, LaneEvent, LaneFault, Note, Role};
 use std::alloc::Global;
-use wire_codec::{is_key, is_piece, is_request};
+use wire_types::{is_key, is_piece, is_request};
 
 /// The greatest index.
 const MOST: u64 = 1 << 62;

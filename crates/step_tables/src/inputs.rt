@@ -3,7 +3,7 @@ use crate::words::Words;
 use host_ids::{Entries, Entry, Key, Proposal, Text};
 use raft_core::{Chunk, Input};
 use std::alloc::Global;
-use wire_codec::{Body, Envelope};
+use wire_types::{Body, Envelope};
 
 /// The most entries of an Append.
 const MOST_ENTRIES: usize = 64;

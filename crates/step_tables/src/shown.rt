@@ -2,7 +2,7 @@ use crate::flaw::Flaw;
 use host_ids::{Batch, Entry, Key};
 use raft_core::{Note, Received, Replica, Role};
 use std::alloc::Global;
-use wire_codec::{Body, Envelope};
+use wire_types::{Body, Envelope};
 
 /// The terms of entries, each after a space.
 fn terms_text(alloc: Global, entries: &[Entry]) -> Result<String, Flaw> {

@@ -5,7 +5,7 @@ use Rattle.std.proofs.lemmas.List.Elements.{All-nil}
 use Rattle.std.specs.Prelude.{◌==◌, not, nat_le, Option, Some, None, IfSome, slice_index_or, replicate}
 use Rattle.std.specs.List.{All, AllByRecursion}
 use Rattle.host_ids.specs.declared.entry.Key.{Key}
-use Rattle.wire_codec.specs.declared.envelope.Envelope.{Envelope}
+use Rattle.wire_types.specs.declared.envelope.Envelope.{Envelope}
 use Rattle.raft_model.specs.declared.durable.Durable.{Durable}
 use Rattle.raft_model.specs.declared.event.LaneEvent.{LaneEvent}
 use Rattle.raft_model.specs.declared.event.LaneEvent.TheVariants as events

@@ -6,7 +6,7 @@ use Rattle.std.proofs.lemmas.List.Elements.{All-append}
 use Rattle.std.specs.Prelude.{not, nat_lt, Some, None, if◌then◌else◌}
 use Rattle.std.specs.List.{All}
 use Rattle.host_ids.specs.declared.entry.Entry.{Entry}
-use Rattle.wire_codec.specs.declared.envelope.Envelope.{Envelope}
+use Rattle.wire_types.specs.declared.envelope.Envelope.{Envelope}
 use Rattle.raft_model.specs.declared.durable.Durable.{Durable}
 use Rattle.raft_model.specs.declared.event.LaneFault.TheVariants as faults
 use Rattle.raft_model.specs.declared.input.Input.{Input}

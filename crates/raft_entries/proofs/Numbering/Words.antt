@@ -18,7 +18,7 @@ use Rattle.raft_model.specs.Snapping.{stays, taken}
 use Rattle.raft_model.specs.declared.chunk.Chunk.{Chunk}
 use Rattle.raft_model.specs.declared.state.Inbox.{Inbox}
 use Rattle.roster.specs.Roster.{Seat, at, all_at}
-use Rattle.wire_codec.specs.declared.envelope.Envelope.{Envelope}
+use Rattle.wire_types.specs.declared.envelope.Envelope.{Envelope}
 use Rattle.raft_entries.specs.Parts.{Parts}
 use Rattle.raft_entries.specs.Numbers.{Numbered, UpTo, IsSent, IsMail, Places, Stands}
 use Rattle.raft_entries.proofs.Numbering.Lists.{num_append, num_take, num_drop, up_to}

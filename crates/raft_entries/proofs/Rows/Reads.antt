@@ -3,8 +3,8 @@ use Rattle.std.proofs.Common.{◌≡◌, ℕ, List, [], ◌∷◌, false, arith}
 use Rattle.std.proofs.lemmas.Bool.{and_parts, or_parts}
 use Rattle.std.specs.Prelude.{◌==◌, not, min, max}
 use Rattle.host_ids.specs.declared.entry.Key.{Key}
-use Rattle.wire_codec.specs.declared.envelope.Body.TheVariants as bodies
-use Rattle.wire_codec.specs.declared.envelope.Envelope.{Envelope}
+use Rattle.wire_types.specs.declared.envelope.Body.TheVariants as bodies
+use Rattle.wire_types.specs.declared.envelope.Envelope.{Envelope}
 use Rattle.read_index.specs.declared.reads.OpenRead.{OpenRead}
 use Rattle.raft_model.specs.declared.state.State.{State as Replica}
 use Rattle.roster.specs.Roster.{Seat, at}

@@ -2,8 +2,8 @@
 use Rattle.std.proofs.Common.{◌≡◌, ◌≤◌, ◌+◌, ◌^◌, ℕ, List, Bool, true, false, refl, arith}
 use Rattle.std.proofs.lemmas.Bool.{and_parts, ltb-true, leb-true}
 use Rattle.std.specs.Prelude.{nat_lt, nat_le, Option, Some, None, IfSome, IsSomeAnd}
-use Rattle.wire_codec.specs.declared.envelope.Body.TheVariants as bodies
-use Rattle.wire_codec.specs.declared.envelope.Envelope.{Envelope}
+use Rattle.wire_types.specs.declared.envelope.Body.TheVariants as bodies
+use Rattle.wire_types.specs.declared.envelope.Envelope.{Envelope}
 use Rattle.raft_model.specs.declared.role.Role.TheVariants.{Follower, Candidate, Leader}
 use Rattle.raft_model.specs.declared.role.Role.{Role}
 use Rattle.raft_model.specs.declared.chunk.Chunk.{Chunk}

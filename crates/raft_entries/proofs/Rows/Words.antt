@@ -5,9 +5,9 @@ use Rattle.std.specs.List.{All}
 use Rattle.host_ids.specs.declared.entry.Entry.{Entry}
 use Rattle.host_ids.specs.declared.entry.Key.{Key}
 use Rattle.host_ids.specs.declared.proposal.Proposal.{Proposal}
-use Rattle.wire_codec.specs.declared.envelope.Envelope.{Envelope}
-use Rattle.wire_codec.specs.declared.envelope.Body.{Body}
-use Rattle.wire_codec.specs.declared.envelope.Body.TheVariants as bodies
+use Rattle.wire_types.specs.declared.envelope.Envelope.{Envelope}
+use Rattle.wire_types.specs.declared.envelope.Body.{Body}
+use Rattle.wire_types.specs.declared.envelope.Body.TheVariants as bodies
 use Rattle.raft_model.specs.declared.chunk.Chunk.{Chunk}
 use Rattle.raft_model.specs.declared.input.Input.{Input}
 use Rattle.raft_model.specs.declared.input.Input.TheVariants as inputs

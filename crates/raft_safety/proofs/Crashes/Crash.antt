@@ -4,9 +4,9 @@ use Rattle.std.specs.Prelude.{nat_lt}
 use Rattle.std.proofs.lemmas.Bool.{cases_eq, cases_order, eq-eqb, ne_eqb, lt-ltb, le-ltb}
 use Rattle.host_ids.specs.declared.entry.Entry.{Entry}
 use Rattle.raft_model.specs.declared.saved.SavedState.{SavedState}
-use Rattle.wire_codec.specs.declared.envelope.Envelope.{Envelope}
-use Rattle.wire_codec.specs.declared.envelope.Body.{Body}
-use Rattle.wire_codec.specs.declared.envelope.Body.TheVariants as bodies
+use Rattle.wire_types.specs.declared.envelope.Envelope.{Envelope}
+use Rattle.wire_types.specs.declared.envelope.Body.{Body}
+use Rattle.wire_types.specs.declared.envelope.Body.TheVariants as bodies
 use Rattle.log_view.specs.Log.{last}
 use Rattle.raft_model.specs.declared.state.State.{State as Replica}
 use Rattle.raft_model.specs.Replica.{fresh}

@@ -6,7 +6,7 @@ use Rattle.std.proofs.lemmas.List.{append-nil, length-set, set_past}
 use Rattle.host_ids.specs.declared.entry.Entry.{Entry}
 use Rattle.host_ids.specs.declared.batch.Batch.{Batch}
 use Rattle.raft_model.specs.declared.saved.SavedState.{SavedState}
-use Rattle.wire_codec.specs.declared.envelope.Envelope.{Envelope}
+use Rattle.wire_types.specs.declared.envelope.Envelope.{Envelope}
 use Rattle.log_view.specs.Log.{Log, last, term_at, reset}
 use Rattle.raft_model.specs.Snapping.{stays}
 use Rattle.raft_model.specs.declared.durable.Durable.{Durable}

@@ -6,7 +6,7 @@ use Rattle.std.proofs.lemmas.Bool.{cond_both, le-ltb, ltb-true, cases_eq}
 use Rattle.std.proofs.lemmas.List.{append-nil, append_assoc, set-get_or}
 use Rattle.host_ids.specs.declared.entry.Entry.{Entry}
 use Rattle.raft_model.specs.declared.saved.SavedState.{SavedState}
-use Rattle.wire_codec.specs.declared.envelope.Envelope.{Envelope}
+use Rattle.wire_types.specs.declared.envelope.Envelope.{Envelope}
 use Rattle.raft_model.specs.declared.state.State.{State as Replica}
 use Rattle.raft_model.specs.Replica.{Row, may_release, in_term}
 use Rattle.raft_model.specs.Step.{Step, released}

@@ -5,9 +5,9 @@ use Rattle.host_ids.specs.declared.entry.Key.{Key}
 use Rattle.std.specs.BTreeMap.{insert_entry}
 use Rattle.host_ids.specs.declared.entry.Entry.{Entry}
 use Rattle.raft_model.specs.declared.saved.SavedState.{SavedState}
-use Rattle.wire_codec.specs.declared.envelope.Envelope.{Envelope}
-use Rattle.wire_codec.specs.declared.envelope.Body.{Body}
-use Rattle.wire_codec.specs.declared.envelope.Body.TheVariants as bodies
+use Rattle.wire_types.specs.declared.envelope.Envelope.{Envelope}
+use Rattle.wire_types.specs.declared.envelope.Body.{Body}
+use Rattle.wire_types.specs.declared.envelope.Body.TheVariants as bodies
 use Rattle.raft_model.specs.declared.event.LaneEvent.TheVariants as events
 use Rattle.raft_model.specs.declared.state.State.{State as Replica}
 use Rattle.raft_model.specs.Replica.{Row}

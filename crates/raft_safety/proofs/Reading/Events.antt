@@ -2,9 +2,9 @@
 use Rattle.std.proofs.Common.{◌≡◌, ⊎_elim, ℕ, ◌<◌, List, [], ◌∷◌, ◌++◌, length, false, refl, sym, ◌∙◌, subst, arith, inl, inr, Option, Some, None}
 use Rattle.std.proofs.lemmas.Option.{same_Some}
 use Rattle.host_ids.specs.declared.entry.Key.{Key}
-use Rattle.wire_codec.specs.declared.envelope.Envelope.{Envelope}
-use Rattle.wire_codec.specs.declared.envelope.Body.{Body}
-use Rattle.wire_codec.specs.declared.envelope.Body.TheVariants as bodies
+use Rattle.wire_types.specs.declared.envelope.Envelope.{Envelope}
+use Rattle.wire_types.specs.declared.envelope.Body.{Body}
+use Rattle.wire_types.specs.declared.envelope.Body.TheVariants as bodies
 use Rattle.raft_model.specs.declared.event.LaneEvent.{LaneEvent}
 use Rattle.raft_model.specs.declared.event.LaneEvent.TheVariants as events
 use Rattle.raft_model.specs.declared.note.Note.{Note}

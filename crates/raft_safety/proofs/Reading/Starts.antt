@@ -3,7 +3,7 @@ use Rattle.std.proofs.Common.{⊎_elim, ℕ, ◌≤◌, List, [], length, Bool, 
 use Rattle.std.specs.Prelude.{slice_set}
 use Rattle.std.proofs.lemmas.List.{append-nil, set_past}
 use Rattle.raft_model.specs.declared.saved.SavedState.{SavedState}
-use Rattle.wire_codec.specs.declared.envelope.Envelope.{Envelope}
+use Rattle.wire_types.specs.declared.envelope.Envelope.{Envelope}
 use Rattle.raft_model.specs.declared.durable.Durable.{Durable}
 use Rattle.raft_model.specs.Restarting.{state_of, restarted}
 use Rattle.raft_model.specs.Group.{Group, saved_at, moved, restarts}

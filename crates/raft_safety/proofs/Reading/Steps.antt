@@ -6,7 +6,7 @@ use Rattle.std.proofs.lemmas.List.{get_or-set_same, get_or-set_other, length-app
 use Rattle.host_ids.specs.declared.entry.Entry.{Entry}
 use Rattle.host_ids.specs.declared.entry.Key.{Key}
 use Rattle.raft_model.specs.declared.saved.SavedState.{SavedState}
-use Rattle.wire_codec.specs.declared.envelope.Envelope.{Envelope}
+use Rattle.wire_types.specs.declared.envelope.Envelope.{Envelope}
 use Rattle.raft_model.specs.declared.state.State.{State as Replica}
 use Rattle.raft_model.specs.declared.state.Pending.{Pending}
 use Rattle.read_index.specs.declared.reads.OpenRead.{OpenRead}

@@ -2,7 +2,7 @@
 use Rattle.std.proofs.Common.{◌≡◌, ◌⊎◌, ⊎_elim, ℕ, ◌<◌, ◌≤◌, List, false, arith, inl, inr, refl}
 use Rattle.host_ids.specs.declared.entry.Entry.{Entry}
 use Rattle.raft_model.specs.declared.saved.SavedState.{SavedState}
-use Rattle.wire_codec.specs.declared.envelope.Envelope.{Envelope}
+use Rattle.wire_types.specs.declared.envelope.Envelope.{Envelope}
 use Rattle.raft_model.specs.declared.state.State.{State as Replica}
 use Rattle.raft_model.specs.Group.{Group}
 use Rattle.raft_safety.specs.History.{Reign, History, IsLed, IsOld}

@@ -175,7 +175,7 @@ module _ {V : Type 0} where
   found_by key v e es Equal q p l = inl refl
   found_by key v e es Greater q p l = inr (refl, l)
 
-  -- with a value written at the first entry, or behind it into the rest, a table is in order still and has the same keys, if the rest is and has
+  -- with a value written at the first entry, or after it into the rest, a table is in order still and has the same keys, if the rest is and has
   written_by : {A : Type 0} (f : Key → A) (key : Key) (u v : V) (e : Key × V) (es fs : List (Key × V)) → AreOrdered (e ∷ es)
       → (key_order key e.0 ≡ Equal) ⊎ ((key_order key e.0 ≡ Greater) × (lookup (is_at (key_order key)) es ≡ Some u))
       → (key_order key e.0 ≡ Greater → AllByRecursion (λ f. key_order f.0 e.0 ≡ Greater) fs)

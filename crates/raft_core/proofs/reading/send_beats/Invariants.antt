@@ -1,6 +1,6 @@
 use Rattle.std.proofs.Common.{◌≡◌, drop}
 use Rattle.std.specs.Prelude.{min}
-use Rattle.wire_codec.specs.declared.envelope.Body.TheVariants as bodies
+use Rattle.wire_types.specs.declared.envelope.Body.TheVariants as bodies
 use Rattle.roster.specs.Roster.{at}
 use Rattle.raft_model.specs.Replica.{each_other, sent}
 use Rattle.raft_model.specs.Reading.{beats}

@@ -1,5 +1,5 @@
 use Rattle.std.proofs.Common.{◌≡◌, drop}
-use Rattle.wire_codec.specs.declared.envelope.Body.TheVariants as bodies
+use Rattle.wire_types.specs.declared.envelope.Body.TheVariants as bodies
 use Rattle.log_view.specs.Log.{last, last_term}
 use Rattle.raft_model.specs.Replica.{each_other, sent}
 use Rattle.raft_model.specs.Voting.{asked_votes}

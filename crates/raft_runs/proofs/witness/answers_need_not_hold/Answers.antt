@@ -2,7 +2,7 @@ use Rattle.std.proofs.Common.{◌≡◌, refl, ap, arith, ◌++◌, true}
 use Rattle.raft_model.specs.Step.{row}
 use Rattle.raft_model.specs.Allowed.{are_allowed}
 use Rattle.raft_model.specs.Group.{act, run}
-use Rattle.wire_codec.specs.declared.envelope.Body.TheVariants as bodies
+use Rattle.wire_types.specs.declared.envelope.Body.TheVariants as bodies
 use Rattle.raft_runs.specs.Runs.{post}
 use Rattle.raft_runs.specs.Witness.Groups.{five, after}
 use Rattle.raft_runs.specs.Witness.Sentences.{AnswersHold}

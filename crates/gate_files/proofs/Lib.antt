@@ -1,0 +1,4 @@
+pub mod Bytes
+pub mod Times
+pub mod Calls
+pub mod Saved

@@ -1,0 +1,4 @@
+pub mod Fault
+pub mod Record
+pub mod Store
+pub mod laws

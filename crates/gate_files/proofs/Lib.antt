@@ -1,4 +1,5 @@
 pub mod Bytes
-pub mod Times
 pub mod Calls
+pub mod Loaded
 pub mod Saved
+pub mod Times

@@ -2,12 +2,15 @@
 #![tactic(auto)]
 
 mod fault;
+mod gate_file;
+mod opening;
 mod reached;
 mod reading;
 mod record;
 mod writing;
 
-pub use fault::RecordFault;
+pub use fault::{RecordFault, StoreFault};
+pub use gate_file::{GateFile, make};
 pub use reached::Reached;
 pub use reading::read_record;
 pub use record::Record;

@@ -1,5 +1,6 @@
+use disk_model::{Depot, Disk, MemDepot};
 use host_ids::Entries;
-use log_record::{Record, RecordFault, read_record, write_record};
+use log_record::{GateFile, Record, RecordFault, StoreFault, make, read_record, write_record};
 use std::alloc::Global;
 use std::process::Abort;
 use std::test::Fail;
@@ -74,5 +75,54 @@ fn a_command_is_written_and_read(rt: HostRuntime) -> Result<(), Fail> {
     let mut bytes = Vec::new(alloc);
     write_entry(&mut bytes, &entry)?;
     assert_eq!(rt; bytes.as_slice(), PUT);
+    Ok(())
+}
+
+/// A log file with the first batch: the header, an open gate, the batch after its length, and a closed
+/// gate.
+const FIRST_FILE: &[u8] =
+    b"NHLOG001\x01\0\0\0\x2e\x01\0\0\0\0\0\0\0\x01\x01\0\0\0\0\0\0\0\0\0\0\0\0\0\0\0\0\0\0\0\0\0\0\0\0\0\0\0\0\0\0\0\x01\0\0\0\0\0";
+
+/// How many records bytes of group 1's log open to, or the place of what is refused.
+fn opened(alloc: Global, bytes: &[u8]) -> Result<Result<usize, u64>, Fail> {
+    let mut depot = MemDepot::new(alloc)?;
+    let Some(mut disk) = depot.take(1) else {
+        return Ok(Err(u64::MAX));
+    };
+    disk.write_at(1000, 0, bytes)?;
+    match GateFile::open(alloc, &mut disk, 1000) {
+        Ok((_, records)) => Ok(Ok(records.len())),
+        Err(StoreFault::BadStore { at, .. }) => Ok(Err(at)),
+        Err(_) => Ok(Err(u64::MAX)),
+    }
+}
+
+#[test]
+fn each_front_of_a_file_is_opened_or_refused(rt: HostRuntime) -> Result<(), Fail> {
+    for count in 0..FIRST_FILE.len() {
+        let place = if count < 9 { 0 } else { 8 };
+        assert_eq!(rt; opened(rt.alloc(), &FIRST_FILE[..count])?, Err(place));
+    }
+    assert_eq!(rt; opened(rt.alloc(), FIRST_FILE)?, Ok(1));
+    Ok(())
+}
+
+#[test]
+fn another_first_gate_is_no_open_one(rt: HostRuntime) -> Result<(), Fail> {
+    assert_eq!(rt; opened(rt.alloc(), b"NHLOG001\xff")?, Ok(0));
+    Ok(())
+}
+
+#[test]
+fn a_new_file_has_no_records(rt: HostRuntime) -> Result<(), Fail> {
+    let alloc = rt.alloc();
+    let mut depot = MemDepot::new(alloc)?;
+    let mut count = None;
+    if let Some(mut disk) = depot.take(1) {
+        make(&mut disk, 1000)?;
+        let (_, records) = GateFile::open(alloc, &mut disk, 1000)?;
+        count = Some(records.len());
+    }
+    assert_eq!(rt; count, Some(0));
     Ok(())
 }

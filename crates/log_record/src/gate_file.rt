@@ -1,0 +1,84 @@
+ghost use Rattle.std.specs.Prelude.{◌≡◌, [], ℕ, Ok, Err, IfOk, OnOk, IsErrOf, true};
+ghost use Rattle.disk_model.specs.Calls.{Keeps};
+ghost use Rattle.disk_model.specs.Crash.{Only, SameBut};
+ghost use Rattle.gate_files.specs.Moments.{LeavesOnly, OnlyOf};
+ghost use Rattle.log_record.specs.declared.fault.StoreFault.TheVariants.{BadStore as BadStoreAt};
+ghost use Rattle.log_record.specs.Record.{is_record};
+ghost use Rattle.log_record.specs.Store.{Caused, IsStore, OpensTo, follows, store_of};
+
+use crate::fault::StoreFault;
+use crate::opening::read_records;
+use crate::reached::Reached;
+use crate::record::Record;
+use disk_model::Disk;
+use gate_files::load;
+use std::alloc::Global;
+
+/// Makes a log file without records, by two calls of the disk.
+///
+/// The file reads as empty before: one whose making failed is cut to 0 first. `Failed` comes only
+/// where the disk's count of faults rose.
+pub fn make<D: Disk>(disk: &mut D, file: u64) -> Result<(), StoreFault>
+    ensures made { (D.state disk.old).honest → (D.state disk.old).seen file ≡ [] → OnOk result (OpensTo file [] ((D.state disk.new).seen file) × Only file ((D.state disk.new).seen file) (D.state disk.new).may_leave) }
+    ensures any_moment { (D.state disk.old).honest → LeavesOnly (D.state disk.old) (D.state disk.new) (OnlyOf (D.state disk.old).may_leave file (λ bytes. Unit {0})) }
+    ensures others { (D.state disk.old).tells → SameBut file (D.state disk.old).seen (D.state disk.new).seen }
+    ensures tells { (D.state disk.old).tells → (D.state disk.new).tells }
+    ensures honest { (D.state disk.old).honest → (D.state disk.new).honest }
+    ensures cause { Caused (D.state disk.old) (D.state disk.new) result }
+    ensures good { (f at : ℕ) → IsErrOf result (BadStoreAt f at) → ⊥ }
+{
+    gate_files::make(disk, file)?;
+    Ok(())
+}
+
+/// A log file that was opened: its records are on the disk alone.
+///
+/// It holds the place of the first gate that isn't open, and what the records reach.
+#[derive(Drop)]
+pub struct GateFile {
+    alloc: Global,
+    file: u64,
+    gate: u64,
+    reached: Reached,
+}
+
+impl GateFile {
+    /// Opens a log file: makes sure of it, reads it once, and answers its records too.
+    ///
+    /// `BadStore` comes exactly where its bytes are no log file's, with the place of the gate after
+    /// which no record stands that may follow, or 0 where the header or the first gate is missing.
+    /// `Failed` comes only where the disk's count of faults rose.
+    pub fn open<D: Disk>(
+        alloc: Global,
+        disk: &mut D,
+        file: u64,
+    ) -> Result<(GateFile, Vec<Record>), StoreFault>
+        ensures records { (D.state disk.old).tells → IfOk result (λ r. store_of file ((D.state disk.old).seen file) ≡ Ok (r.1.items, r.0.gate)) }
+        ensures store { (D.state disk.old).honest → IfOk result (λ r. IsStore (D.state disk.new) r.0 r.1.items) }
+        ensures file { IfOk result (λ r. r.0.file ≡ file) }
+        ensures bad_store { (f at : ℕ) → (D.state disk.old).tells → IsErrOf result (BadStoreAt f at) → (f ≡ file) × (store_of file ((D.state disk.old).seen file) ≡ Err at) }
+        ensures keeps { Keeps (D.state disk.old) (D.state disk.new) }
+        ensures any_moment { (D.state disk.old).honest → LeavesOnly (D.state disk.old) (D.state disk.new) (D.state disk.old).may_leave }
+        ensures tells { (D.state disk.old).tells → (D.state disk.new).tells }
+        ensures honest { (D.state disk.old).honest → (D.state disk.new).honest }
+        ensures cause { Caused (D.state disk.old) (D.state disk.new) result }
+    {
+        let bytes = load(alloc, disk, file)?;
+        let opened = read_records(alloc, file, &bytes)?;
+        let gate_file = GateFile {
+            alloc,
+            file,
+            gate: opened.gate as u64,
+            reached: opened.reached,
+        };
+        Ok((gate_file, opened.records))
+    }
+
+    /// Whether a well-formed record may follow in the file.
+    pub fn follows(&self, record: &Record) -> bool
+        requires { is_record record.now ≡ true }
+        ensures { result ≡ follows self.now.file self.now.reached record.now }
+    {
+        self.reached.follows(self.file, record)
+    }
+}

@@ -6,7 +6,7 @@ use Rattle.disk_model.specs.Bytes.{written}
 use Rattle.disk_model.specs.Crash.{Torn}
 use Rattle.gate_files.specs.Gates.{opened, gated, framed, header, Opens, OldOrNew}
 
--- a gate after these records, and behind it a record with a closed gate
+-- a gate after these records, and after it a record with a closed gate
 abbrev pub Ready : List (List ℕ) → List ℕ → List ℕ → Type 0
 Ready rs r bytes = (gate : ℕ) × (tail : List ℕ) × (bytes ≡ opened rs ++ gate ∷ (framed r ++ tail))
 
@@ -34,19 +34,19 @@ module _ (pre : List ℕ) (k : ℕ) (at : k ≡ length pre) where
   size : (g : ℕ) (rest : List ℕ) → length (pre ++ g ∷ rest) ≡ k + 1 + length rest
   size g rest = omega (arith, length-append pre (g ∷ rest), at)
 
-  -- a torn write behind the gate leaves the gate
-  pub torn_behind : (n g : ℕ) (junk c : List ℕ) → Torn (k + 1) n (pre ++ g ∷ junk) c → c ≡ pre ++ g ∷ drop (k + 1) c
-  torn_behind n g junk c torn =
+  -- a torn write after the gate leaves the gate
+  pub torn_after : (n g : ℕ) (junk c : List ℕ) → Torn (k + 1) n (pre ++ g ∷ junk) c → c ≡ pre ++ g ∷ drop (k + 1) c
+  torn_after n g junk c torn =
       let first : take (k + 1) c ≡ pre ++ g ∷ [] = before_torn (k + 1) n (pre ++ g ∷ junk) c (omega (arith, size g junk)) torn ∙ front g junk in
       sym (take-append-drop (k + 1) c) ∙ ap (λ (l : List ℕ). l ++ drop (k + 1) c) first ∙ append_assoc pre (g ∷ []) (drop (k + 1) c)
 
-  -- a write behind the gate
-  pub written_behind : (g : ℕ) (junk body : List ℕ) → written (k + 1) body (pre ++ g ∷ junk) ≡ pre ++ g ∷ (body ++ drop (k + 1 + length body) (pre ++ g ∷ junk))
-  written_behind g junk body =
+  -- a write after the gate
+  pub written_after : (g : ℕ) (junk body : List ℕ) → written (k + 1) body (pre ++ g ∷ junk) ≡ pre ++ g ∷ (body ++ drop (k + 1 + length body) (pre ++ g ∷ junk))
+  written_after g junk body =
       let more = drop (k + 1 + length body) (pre ++ g ∷ junk) in
       written_within (k + 1) body (pre ++ g ∷ junk) (omega (arith, size g junk)) ∙ ap (λ (l : List ℕ). l ++ body ++ more) (front g junk) ∙ ap (λ (l : List ℕ). l ++ more) (append_assoc pre (g ∷ []) body) ∙ append_assoc pre (g ∷ body) more
 
-  -- a torn write of the gate leaves what was before and behind it, and may leave more
+  -- a torn write of the gate leaves what was before and after it, and may leave more
   pub torn_gate : (g : ℕ) (rest c : List ℕ) → Torn k 1 (pre ++ g ∷ rest) c → c ≡ pre ++ get_or c k 0 ∷ (rest ++ drop (length rest) (drop (k + 1) c))
   torn_gate g rest c torn =
       let len = size g rest in
@@ -91,7 +91,7 @@ module _ (rs : List (List ℕ)) (gate : ℕ) (place : gate ≡ length (opened rs
       let junk = opens.2.1 in
       let stands : old ≡ opened rs ++ g ∷ junk = opens.1 ∙ ap (λ (l : List ℕ). opened rs ++ l) opens.2.2 in
       let T : List ℕ → Type 0 = λ b. Torn (gate + 1) n b new in
-      (g ∷ drop (gate + 1) new, torn_behind (opened rs) gate place n g junk new (subst T stands torn), (g, drop (gate + 1) new, refl, opens.2.3))
+      (g ∷ drop (gate + 1) new, torn_after (opened rs) gate place n g junk new (subst T stands torn), (g, drop (gate + 1) new, refl, opens.2.3))
 
   -- the first write, done
   pub opens_written : (r old : List ℕ) → Opens rs old → Ready rs r (written (gate + 1) (framed r) old)
@@ -99,7 +99,7 @@ module _ (rs : List (List ℕ)) (gate : ℕ) (place : gate ≡ length (opened rs
       let g = opens.2.0 in
       let junk = opens.2.1 in
       let stands : old ≡ opened rs ++ g ∷ junk = opens.1 ∙ ap (λ (l : List ℕ). opened rs ++ l) opens.2.2 in
-      (g, drop (gate + 1 + length (framed r)) (opened rs ++ g ∷ junk), ap (written (gate + 1) (framed r)) stands ∙ written_behind (opened rs) gate place g junk (framed r))
+      (g, drop (gate + 1 + length (framed r)) (opened rs ++ g ∷ junk), ap (written (gate + 1) (framed r)) stands ∙ written_after (opened rs) gate place g junk (framed r))
 
   -- the second write, torn
   pub ready_torn : (r old new : List ℕ) → Ready rs r old → Torn gate 1 old new → Ready rs r new

@@ -66,7 +66,7 @@ fn write_proposal(out: &mut Vec<u8>, proposal: &Proposal) -> Result<(), NoMemory
 
 /// Adds the bytes of a well-formed entry, all but its index, to some bytes. A blank has 51.
 ///
-/// The only error is `NoMemory`; a part of the entry's bytes may then stand at the end.
+/// The only error is `NoMemory`, and nothing is said of what the vector holds then.
 pub fn write_entry(out: &mut Vec<u8>, entry: &Entry) -> Result<(), NoMemory>
     requires { is_entry entry.now ≡ true }
     ensures bytes { OnOk result (out.new.items ≡ out.old.items ++ entry_bytes entry.now) }
@@ -182,8 +182,8 @@ fn read_parts(
 
 /// The entry of an index at a place, and the place after it.
 ///
-/// `NotEnvelope` comes exactly where no well-formed entry's bytes stand there. Its place is after the
-/// longest front that begins some entry's bytes.
+/// `NotEnvelope` comes only where no well-formed entry's bytes stand there, and then that or `NoMemory`
+/// does. Its place is after the longest front that begins some entry's bytes.
 pub fn read_entry(
     alloc: Global,
     bytes: &[u8],

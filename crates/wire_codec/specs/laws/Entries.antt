@@ -60,16 +60,19 @@ module _ (lo : ℕ) (few : lo ≤ 9) where
   start_and_serial : (host : ℕ) → Exact (both (number 8 (least_of host) (most_of host)) (λ start. number 8 (least_of host) (most_of host))) (InStart host) (λ p. number_bytes 8 p.0 ++ number_bytes 8 p.1)
   start_and_serial host =
       let one = wide (least_of host) (most_of host) (least_fits host) (most_fits host) in
-      are_both (number 8 (least_of host) (most_of host)) (λ start. number 8 (least_of host) (most_of host)) (Between (least_of host) (most_of host)) (λ start. Between (least_of host) (most_of host)) (number_bytes 8) (λ start. number_bytes 8) one (λ start g. one) (λ start g. least (least_of host) (most_of host) (least_fits host))
+      are_both (number 8 (least_of host) (most_of host)) (λ start. number 8 (least_of host) (most_of host)) (Between (least_of host) (most_of host)) (λ start. Between (least_of host) (most_of host))
+      (number_bytes 8) (λ start. number_bytes 8) one (λ start g. one) (λ start g. least (least_of host) (most_of host) (least_fits host))
 
   pub some_key : (key : Key) × IsKeyFrom key
   some_key = (record { host = 9; start = 1; serial = 1 }, ((few, omega arith), ((omega arith, omega arith), (omega arith, omega arith))))
 
   pub is_key_at : Exact (key_at lo) IsKeyFrom key_bytes
   is_key_at =
-      is_made key_of (λ key. (key.host, (key.start, key.serial))) (both (number 1 lo 9) (λ host. both (number 8 (least_of host) (most_of host)) (λ start. number 8 (least_of host) (most_of host)))) RawKey (λ p. number_bytes 1 p.0 ++ (number_bytes 8 p.1.0 ++ number_bytes 8 p.1.1)) IsKeyFrom key_bytes
+      is_made key_of (λ key. (key.host, (key.start, key.serial))) (both (number 1 lo 9) (λ host. both (number 8 (least_of host) (most_of host)) (λ start. number 8 (least_of host) (most_of host)))) RawKey
+      (λ p. number_bytes 1 p.0 ++ (number_bytes 8 p.1.0 ++ number_bytes 8 p.1.1)) IsKeyFrom key_bytes
       (record { good_part = λ key g. g; whole = λ key g. refl; spelt = λ key g. refl; good_whole = λ p g. g; parted = λ p g. refl })
-      (are_both (number 1 lo 9) (λ host. both (number 8 (least_of host) (most_of host)) (λ start. number 8 (least_of host) (most_of host))) (Between lo 9) InStart (number_bytes 1) (λ host p. number_bytes 8 p.0 ++ number_bytes 8 p.1)
+      (are_both (number 1 lo 9) (λ host. both (number 8 (least_of host) (most_of host)) (λ start. number 8 (least_of host) (most_of host))) (Between lo 9) InStart (number_bytes 1)
+      (λ host p. number_bytes 8 p.0 ++ number_bytes 8 p.1)
       (is_number 1 lo 9 few (omega arith)) (λ host g. start_and_serial host) (λ host g. ((least_of host, least_of host), ((omega arith, least_fits host), (omega arith, least_fits host)))))
 
 -- ---- proposals
@@ -134,7 +137,8 @@ module _ (blank : Bool) where
   is_command_at : (series : ℕ) → Exact (command_at blank series) (IsSized series) sized_bytes
   is_command_at series =
       let r = sizes series in
-      are_both (number 2 (unless blank (if_command series 1)) (unless blank (if_command series MOST_COMMAND))) text (Between (unless blank (if_command series 1)) (unless blank (if_command series MOST_COMMAND))) (λ n l. length l ≡ n) (number_bytes 2) (λ n l. l)
+      are_both (number 2 (unless blank (if_command series 1)) (unless blank (if_command series MOST_COMMAND))) text (Between (unless blank (if_command series 1)) (unless blank
+      (if_command series MOST_COMMAND))) (λ n l. length l ≡ n) (number_bytes 2) (λ n l. l)
       (is_number 2 (unless blank (if_command series 1)) (unless blank (if_command series MOST_COMMAND)) r.0 (omega (arith, r.1))) (λ n g. is_text n) (λ n g. some_text n)
 
   some_sized : (series : ℕ) → (p : Sized) × IsSized series p
@@ -176,7 +180,8 @@ abbrev pub IsProposalAs : Bool → Proposal → Type 0
 IsProposalAs true p = p ≡ proposals.Blank
 IsProposalAs false p = (is_proposal p ≡ true) × (is_blank p ≡ false) × (client_of p < 2 ^ 64)
 
-same_parts : (c c' s s' r r' z z' : ℕ) (t t' : List ℕ) → c ≡ c' → s ≡ s' → r ≡ r' → z ≡ z' → t ≡ t' → let q : ℕ × (ℕ × (ℕ × Sized)) = (c, (s, (r, (z, t)))) in let q' : ℕ × (ℕ × (ℕ × Sized)) = (c', (s', (r', (z', t')))) in q ≡ q'
+same_parts : (c c' s s' r r' z z' : ℕ) (t t' : List ℕ) → c ≡ c' → s ≡ s' → r ≡ r' → z ≡ z' → t ≡ t'
+    → let q : ℕ × (ℕ × (ℕ × Sized)) = (c, (s, (r, (z, t)))) in let q' : ℕ × (ℕ × (ℕ × Sized)) = (c', (s', (r', (z', t')))) in q ≡ q'
 same_parts c c' s s' r r' z z' t t' a b d e f = rw (a, b, d, e, f) refl
 
 chosen : (b c : Bool) (x y : ℕ) → b ≡ c → (if b then x else y) ≡ (if c then x else y)
@@ -243,7 +248,8 @@ module _ (c s r z : ℕ) (t : List ℕ) where
           let responding = chosen (nat_le 1 s && nat_le s MOST_SERIES) true MOST_SERIES 0 inside in
           let is : proposal_of false raw ≡ proposals.Session c s r t = of_client ∙ ap (λ (b : Bool). if b then proposals.Session c s r t else if s == REGISTER then proposals.Register c else proposals.Close c) l in
           let numbers : are_fit_numbers c s r ≡ true =
-          and_from (nat_le 1 c && nat_le 1 s && nat_le s MOST_SERIES) (nat_le r MOST_SERIES) (and_from (nat_le 1 c && nat_le 1 s) (nat_le s MOST_SERIES) (and_from (nat_le 1 c) (nat_le 1 s) (le-leb 1 c client_there) (le-leb 1 s series_there.0)) l) (le-leb r MOST_SERIES (omega (arith, g.1.1.0.1, responding))) in
+          and_from (nat_le 1 c && nat_le 1 s && nat_le s MOST_SERIES) (nat_le r MOST_SERIES) (and_from (nat_le 1 c && nat_le 1 s) (nat_le s MOST_SERIES) (and_from (nat_le 1 c) (nat_le 1 s)
+          (le-leb 1 c client_there) (le-leb 1 s series_there.0)) l) (le-leb r MOST_SERIES (omega (arith, g.1.1.0.1, responding))) in
           let good : IsProposalAs false (proposals.Session c s r t) = (and_from (are_fit_numbers c s r) (is_command t) numbers (commands l), refl, omega (arith, g.0.1)) in
           let parted : parts (proposals.Session c s r t) ≡ raw = same_parts c c s s r r (length t) z t t refl refl refl g.1.1.1.1 refl in
           record { good = subst (IsProposalAs false) (sym is) good; parted = ap parts is ∙ parted }
@@ -273,7 +279,14 @@ module _ (c s r z : ℕ) (t : List ℕ) where
             let is : proposal_of false raw ≡ proposals.Close c = of_client ∙ after_sessions ∙ ap (λ (b : Bool). if b then proposals.Register c else proposals.Close c) x in
             let other = eqb-false s REGISTER x in
             let above = leb-false s MOST_SERIES l in
-            let closes : CLOSE ≡ s = elim (cases_eq s REGISTER) [ inl same ↦ absurd (other same) | inr differs ↦ (elim (cases_lt s CLOSE) [ inl under ↦ absurd (differs (omega (arith, under, above))) | inr over ↦ omega (arith, over, series_there.1) ]) ] in
+            let closes : CLOSE ≡ s = elim (cases_eq s REGISTER) [
+              | inl same ↦ absurd (other same)
+              | inr differs ↦ (elim (cases_lt s CLOSE) [
+                | inl under ↦ absurd (differs (omega
+                    (arith, under, above)))
+                | inr over ↦ omega (arith, over, series_there.1)
+              ])
+            ] in
             let good : IsProposalAs false (proposals.Close c) = (le-leb 1 c client_there, refl, omega (arith, g.0.1)) in
             let parted : parts (proposals.Close c) ≡ raw = same_parts c c CLOSE s 0 r 0 z [] t refl closes (sym no_response_there) (sym no_text_there.0) (sym no_text_there.1) in
             record { good = subst (IsProposalAs false) (sym is) good; parted = ap parts is ∙ parted }
@@ -310,7 +323,8 @@ parted_plain command e =
 client_is : (client : ℕ) → nat_le 1 client ≡ true → (client == 0) ≡ false
 client_is client e = let l = leb-true 1 client e in ne_eqb client 0 (λ z. omega (arith, l, z))
 
-parted_session : (client series responded : ℕ) (command : List ℕ) → are_fit_numbers client series responded ≡ true → is_command command ≡ true → client < 2 ^ 64 → Parted false (proposals.Session client series responded command)
+parted_session : (client series responded : ℕ) (command : List ℕ) → are_fit_numbers client series responded ≡ true → is_command command ≡ true → client < 2 ^ 64
+    → Parted false (proposals.Session client series responded command)
 parted_session client series responded command f e fit =
     let last = and_parts (nat_le 1 client && nat_le 1 series && nat_le series MOST_SERIES) (nat_le responded MOST_SERIES) f in
     let mid = and_parts (nat_le 1 client && nat_le 1 series) (nat_le series MOST_SERIES) last.0 in
@@ -327,8 +341,25 @@ parted_session client series responded command f e fit =
     let high = leb-true series MOST_SERIES mid.1 in
     let answered = leb-true responded MOST_SERIES last.1 in
     record {
-      raw_good = ((omega arith, omega (arith, fit)), ((omega (arith, least_series, low), omega (arith, most_series, high)), ((omega arith, omega (arith, most_responded, answered)), ((omega (arith, least_size, size.0), omega (arith, most_size, size.1)), refl))));
-      joined = ap (λ (b : Bool). if b then proposals.Plain command else of_session client series responded command) there ∙ ap (λ (b : Bool). if b then proposals.Session client series responded command else if series == REGISTER then proposals.Register client else proposals.Close client) mid.1;
+      raw_good = (
+        (omega arith, omega (arith, fit)),
+        (
+          (omega (arith, least_series, low), omega (arith, most_series, high)),
+          (
+            (omega arith, omega (arith, most_responded, answered)),
+            (
+              (
+                omega
+                    (arith, least_size, size.0),
+                omega (arith, most_size, size.1),
+              ),
+              refl,
+            ),
+          ),
+        ),
+      );
+      joined = ap (λ (b : Bool). if b then proposals.Plain command else of_session client series responded command) there
+          ∙ ap (λ (b : Bool). if b then proposals.Session client series responded command else if series == REGISTER then proposals.Register client else proposals.Close client) mid.1;
     }
 
 parted_register : (client : ℕ) → nat_le 1 client ≡ true → client < 2 ^ 64 → Parted false (proposals.Register client)
@@ -336,14 +367,22 @@ parted_register client e fit =
     let there = client_is client e in
     let least_series = chosen (client == 0) false 0 1 there in
     let most_series = chosen (client == 0) false 0 greatest there in
-    record { raw_good = ((omega arith, omega (arith, fit)), ((omega (arith, least_series), omega (arith, most_series)), ((omega arith, omega arith), ((omega arith, omega arith), refl)))); joined = ap (λ (b : Bool). if b then proposals.Plain [] else proposals.Register client) there }
+    record {
+      raw_good = ((omega arith, omega (arith, fit)), ((omega (arith, least_series), omega (arith, most_series)), ((omega arith, omega arith), ((omega arith, omega arith), refl))));
+      joined = ap (λ
+          (b : Bool). if b then proposals.Plain [] else proposals.Register client) there;
+    }
 
 parted_close : (client : ℕ) → nat_le 1 client ≡ true → client < 2 ^ 64 → Parted false (proposals.Close client)
 parted_close client e fit =
     let there = client_is client e in
     let least_series = chosen (client == 0) false 0 1 there in
     let most_series = chosen (client == 0) false 0 greatest there in
-    record { raw_good = ((omega arith, omega (arith, fit)), ((omega (arith, least_series), omega (arith, most_series)), ((omega arith, omega arith), ((omega arith, omega arith), refl)))); joined = ap (λ (b : Bool). if b then proposals.Plain [] else proposals.Close client) there }
+    record {
+      raw_good = ((omega arith, omega (arith, fit)), ((omega (arith, least_series), omega (arith, most_series)), ((omega arith, omega arith), ((omega arith, omega arith), refl))));
+      joined = ap (λ
+          (b : Bool). if b then proposals.Plain [] else proposals.Close client) there;
+    }
 
 parted : (blank : Bool) (p : Proposal) → IsProposalAs blank p → Parted blank p
 parted true p g = subst (λ (x : Proposal). Parted true x) (sym g) parted_blank
@@ -475,7 +514,8 @@ module _ (index term : ℕ) (key : Key) (p : Proposal) (g : RawEntry (term, (key
       let no_client : client_of p ≡ 0 = ap client_of blank in
       record {
         numbered = refl;
-        well_formed = and_from (nat_le 1 term) ((is_blank p && is_no_key key) || is_request key p) (le-leb 1 term g.0.0) (or_left (is_blank p && is_no_key key) (is_request key p) (and_from (is_blank p) (is_no_key key) blanks no_key));
+        well_formed = and_from (nat_le 1 term) ((is_blank p && is_no_key key) || is_request key p) (le-leb 1 term g.0.0) (or_left (is_blank p && is_no_key key) (is_request key p) (and_from (is_blank p)
+            (is_no_key key) blanks no_key));
         fitting = from_fitting entry (record { term_fits = omega (arith, g.0.1); start_fits = omega (arith, start); serial_fits = omega (arith, serial); client_fits = omega (arith, no_client) });
       }
 
@@ -486,7 +526,8 @@ module _ (index term : ℕ) (key : Key) (p : Proposal) (g : RawEntry (term, (key
       let high = chosen (key.host == 0) false 0 greatest e in
       let one : 1 ≤ key.host = elim (cases_lt key.host 1) [ inl l ↦ absurd (let same : key.host ≡ 0 = omega (arith, l) in eqb-false key.host 0 e same) | inr l ↦ l ] in
       let keyed : is_key key ≡ true =
-      and_from (is_host key.host && nat_le 1 key.start) (nat_le 1 key.serial) (and_from (is_host key.host) (nat_le 1 key.start) (and_from (nat_le 1 key.host) (nat_le key.host 9) (le-leb 1 key.host one) (le-leb key.host 9 g.1.0.0.1)) (le-leb 1 key.start (omega (arith, low, g.1.0.1.0.0)))) (le-leb 1 key.serial (omega (arith, low, g.1.0.1.1.0))) in
+      and_from (is_host key.host && nat_le 1 key.start) (nat_le 1 key.serial) (and_from (is_host key.host) (nat_le 1 key.start) (and_from (nat_le 1 key.host) (nat_le key.host 9) (le-leb 1 key.host one)
+      (le-leb key.host 9 g.1.0.0.1)) (le-leb 1 key.start (omega (arith, low, g.1.0.1.0.0)))) (le-leb 1 key.serial (omega (arith, low, g.1.0.1.1.0))) in
       let request : is_request key p ≡ true = and_from (is_key key && is_proposal p) (not (is_blank p)) (and_from (is_key key) (is_proposal p) keyed q.0) (not_from_false (is_blank p) q.1) in
       record {
         numbered = refl;
@@ -502,7 +543,8 @@ module _ (index term : ℕ) (key : Key) (p : Proposal) (g : RawEntry (term, (key
 pub is_entry_at : (index : ℕ) → Exact (entry_at index) (IsEntryAt index) entry_bytes
 unfolding entry_at
 is_entry_at index =
-    is_made (entry_of index) entry_parts (both (number 8 1 greatest) (λ term. both (key_at 0) (λ key. proposal_at (key.host == 0)))) RawEntry (λ p. number_bytes 8 p.0 ++ (key_bytes p.1.0 ++ proposal_bytes p.1.1)) (IsEntryAt index) entry_bytes
+    is_made (entry_of index) entry_parts (both (number 8 1 greatest) (λ term. both (key_at 0) (λ key. proposal_at (key.host == 0)))) RawEntry (λ p. number_bytes 8 p.0 ++
+    (key_bytes p.1.0 ++ proposal_bytes p.1.1)) (IsEntryAt index) entry_bytes
     (record {
       good_part = λ e g. raw_entry index e g;
       whole = λ e g. entry_joined index e g;
@@ -510,9 +552,11 @@ is_entry_at index =
       good_whole = λ q g. is_entry_of index q.0 q.1.0 q.1.1 g (q.1.0.host == 0) refl;
       parted = λ q g. refl;
     })
-    (are_both (number 8 1 greatest) (λ term. both (key_at 0) (λ key. proposal_at (key.host == 0))) (Between 1 greatest) (λ term p. IsKeyFrom 0 (omega arith) p.0 × IsProposalAs (p.0.host == 0) p.1) (number_bytes 8) (λ term p. key_bytes p.0 ++ proposal_bytes p.1)
+    (are_both (number 8 1 greatest) (λ term. both (key_at 0) (λ key. proposal_at (key.host == 0))) (Between 1 greatest) (λ term p. IsKeyFrom 0 (omega arith) p.0
+    × IsProposalAs (p.0.host == 0) p.1) (number_bytes 8) (λ term p. key_bytes p.0 ++ proposal_bytes p.1)
     (wide 1 greatest (omega arith) (omega arith))
-    (λ term g. are_both (key_at 0) (λ key. proposal_at (key.host == 0)) (IsKeyFrom 0 (omega arith)) (λ key p. IsProposalAs (key.host == 0) p) key_bytes (λ key p. proposal_bytes p) (is_key_at 0 (omega arith)) (λ key h. is_proposal_at (key.host == 0)) (λ key h. some_proposal (key.host == 0)))
+    (λ term g. are_both (key_at 0) (λ key. proposal_at (key.host == 0)) (IsKeyFrom 0 (omega arith)) (λ key p. IsProposalAs (key.host == 0) p) key_bytes (λ key p. proposal_bytes p) (is_key_at 0
+    (omega arith)) (λ key h. is_proposal_at (key.host == 0)) (λ key h. some_proposal (key.host == 0)))
     (λ term g. let k = some_key 0 (omega arith) in let p = some_proposal (k.0.host == 0) in ((k.0, p.0), (k.1, p.1))))
 
 pub some_entry : (index : ℕ) → (e : Entry) × IsEntryAt index e

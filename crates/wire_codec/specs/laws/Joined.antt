@@ -21,7 +21,15 @@ two_parts (x ∷ a) b [] d e = inr (record { between = x ∷ a; front = refl; re
 two_parts (x ∷ a) b (y ∷ c) d e =
     let head : x ≡ y = cc in
     let tail : a ++ b ≡ c ++ d = cc in
-    elim (two_parts a b c d tail) [ inl l ↦ inl (record { between = l.between; front = rw (head, l.front) refl; rest = l.rest }) | inr l ↦ inr (record { between = l.between; front = rw (head, l.front) refl; rest = l.rest }) ]
+    elim (two_parts a b c d tail) [
+      | inl l ↦ inl (record { between = l.between; front = rw (head, l.front) refl; rest = l.rest })
+      | inr l ↦ inr (record {
+        between = l.between;
+        front = rw
+            (head, l.front) refl;
+        rest = l.rest;
+      })
+    ]
 
 -- ---- one after the other
 
@@ -136,13 +144,24 @@ module _ {A B : Type 0} (first : Reader A) (second : A → Reader B) (GoodA : A 
         -- the second value is refused
         past : (a : A) (m : ℕ) (s : Stands GoodA spell_a bytes at a m) → second a bytes m ≡ Err place → Longer (spell_a a) (drop m bytes) f.front f.rest → at + n ≤ place
         past a m s t l =
-            let is : a ≡ f.value.0 = one_value a f.value.0 (l.between ++ f.missing) (spell_b f.value.0 f.value.1) s.good f.good.0 (sym (append_assoc (spell_a a) l.between f.missing) ∙ ap (λ (x : List ℕ). x ++ f.missing) (sym l.front) ∙ sym whole) in
+            let is : a ≡ f.value.0 = one_value a f.value.0 (l.between ++ f.missing) (spell_b f.value.0 f.value.1) s.good f.good.0 (sym (append_assoc (spell_a a) l.between f.missing)
+            ∙ ap (λ (x : List ℕ). x ++ f.missing) (sym l.front) ∙ sym whole) in
             let GoodNow = λ (x : A). GoodB x f.value.1 in
             let good : GoodB a f.value.1 = subst GoodNow (sym is) f.good.1 in
             let spelled : spell_a a ++ spell_b a f.value.1 ≡ spell_a a ++ (l.between ++ f.missing) =
             ap (λ (x : A). spell_a x ++ spell_b x f.value.1) is ∙ whole ∙ ap (λ (x : List ℕ). x ++ f.missing) l.front ∙ append_assoc (spell_a a) l.between f.missing in
             let second_front : Front (GoodB a) (spell_b a) (drop m bytes) (length l.between) =
-            record { value = f.value.1; good = good; front = l.between; missing = f.missing; rest = f.rest; begins = append_cancel_left (spell_a a) (spell_b a f.value.1) (l.between ++ f.missing) spelled; stands = l.rest; counted = refl } in
+            record {
+              value = f.value.1;
+              good = good;
+              front = l.between;
+              missing = f.missing;
+              rest = f.rest;
+              begins = append_cancel_left (spell_a a) (spell_b a f.value.1)
+                  (l.between ++ f.missing) spelled;
+              stands = l.rest;
+              counted = refl;
+            } in
             let bound = (eb a s.good).most bytes m place (length l.between) y s.within t second_front in
             let sized = ap (λ (x : List ℕ). length x) l.front ∙ length-append (spell_a a) l.between in
             omega (arith, bound, sized, s.after, f.counted)
@@ -207,7 +226,13 @@ module _ {A C : Type 0} (f : A → C) (part : C → A) (read : Reader A) (GoodA 
             let same = ok_parts (f r.0) c r.1 next (sym made_is ∙ d) in
             let one = e.spells r.0 bytes at r.1 y h t in
             let sized = same_bytes r.0 one.good in
-            let joined : Stands GoodC spell_c bytes at (f r.0) r.1 = record { good = s.good_whole r.0 one.good; spelt = one.spelt ∙ ap (λ (l : List ℕ). l ++ drop r.1 bytes) (sym sized); after = one.after ∙ ap (λ (l : List ℕ). at + length l) (sym sized); within = one.within } in
+            let joined : Stands GoodC spell_c bytes at (f r.0) r.1 = record {
+              good = s.good_whole r.0 one.good;
+              spelt = one.spelt
+                  ∙ ap (λ (l : List ℕ). l ++ drop r.1 bytes) (sym sized);
+              after = one.after ∙ ap (λ (l : List ℕ). at + length l) (sym sized);
+              within = one.within;
+            } in
             subst (λ (n : ℕ). Stands GoodC spell_c bytes at c n) same.1 (subst (λ (q : C). Stands GoodC spell_c bytes at q r.1) same.0 joined)
         by (Err q) t = absurd (let u : made f read bytes at ≡ Err q = rw t refl in cc)
 
@@ -221,8 +246,20 @@ module _ {A C : Type 0} (f : A → C) (part : C → A) (read : Reader A) (GoodA 
     made_begin : (bytes : List ℕ) (at place : ℕ) → AreBytes bytes → at ≤ length bytes → made f read bytes at ≡ Err place → at ≤ place × Front GoodC spell_c (drop at bytes) (place - at)
     made_begin bytes at place y h d =
         let one = e.begins bytes at place y h (refused bytes at place d) in
-        let g = one.1 in
-        (one.0, record { value = f g.value; good = s.good_whole g.value g.good; front = g.front; missing = g.missing; rest = g.rest; begins = same_bytes g.value g.good ∙ g.begins; stands = g.stands; counted = g.counted })
+        let g = one.1 in (
+          one.0,
+          record {
+            value = f g.value;
+            good = s.good_whole g.value g.good;
+            front = g.front;
+            missing = g.missing;
+            rest = g.rest;
+            begins = same_bytes g.value g.good
+                ∙ g.begins;
+            stands = g.stands;
+            counted = g.counted;
+          },
+        )
 
     made_most : (bytes : List ℕ) (at place n : ℕ) → AreBytes bytes → at ≤ length bytes → made f read bytes at ≡ Err place → Front GoodC spell_c (drop at bytes) n → at + n ≤ place
     made_most bytes at place n y h d g =
@@ -237,11 +274,18 @@ module _ {A C : Type 0} (f : A → C) (part : C → A) (read : Reader A) (GoodA 
 module _ {A : Type 0} (a : A) (Good : A → Type 0) (spell : A → List ℕ) (good : Good a) (only : (x : A) → Good x → x ≡ a) (empty : spell a ≡ []) where
   pub is_nothing : Exact (nothing a) Good spell
   is_nothing = record {
-    back = λ x bytes rest at g h e. (let same = only x g in let long : at ≡ at + length (spell x) = (let l = ap (λ (y : A). length (spell y)) same ∙ ap (λ (l : List ℕ). length l) empty in omega (arith, l)) in ap (λ (n : ℕ). answer (a, n)) long ∙ ap (λ (y : A). answer (y, at + length (spell x))) (sym same));
+    back = λ x bytes rest at g h e. (let same = only x g in let long : at ≡ at + length (spell x) = (let l = ap (λ (y : A). length (spell y)) same
+        ∙ ap (λ (l : List ℕ). length l) empty in omega (arith, l)) in ap (λ (n : ℕ). answer (a, n)) long ∙ ap (λ (y : A). answer (y, at + length (spell x))) (sym same));
     spells = λ x bytes at next y h e.
         (let parts = ok_parts a x at next e in
         let none : spell x ≡ [] = ap spell (sym parts.0) ∙ empty in
-        record { good = subst Good parts.0 good; spelt = ap (λ (n : ℕ). drop n bytes) parts.1 ∙ ap (λ (l : List ℕ). l ++ drop next bytes) (sym none); after = (let l = ap (λ (l : List ℕ). length l) none in omega (arith, l, parts.1)); within = omega (arith, parts.1, h) });
+        record {
+          good = subst Good parts.0 good;
+          spelt = ap (λ (n : ℕ). drop n bytes) parts.1
+              ∙ ap (λ (l : List ℕ). l ++ drop next bytes) (sym none);
+          after = (let l = ap (λ (l : List ℕ). length l) none in omega (arith, l, parts.1));
+          within = omega (arith, parts.1, h);
+        });
     begins = λ bytes at place y h e. absurd cc;
     most = λ bytes at place n y h e f. absurd cc;
   }
@@ -271,7 +315,13 @@ module _ (n : ℕ) where
           let parts = ok_parts (take n (drop at bytes)) l (at + n) next (sym (there bytes at fits) ∙ e) in
           let left = length-drop at bytes in
           let long : length l ≡ n = ap (λ (x : List ℕ). length x) (sym parts.0) ∙ length-take-le n (drop at bytes) (omega (arith, left, fits)) in
-          record { good = long; spelt = sym (take-append-drop n (drop at bytes)) ∙ ap (λ (x : List ℕ). x ++ drop n (drop at bytes)) parts.0 ∙ ap (λ (x : List ℕ). l ++ x) (drop-drop n at bytes ∙ ap (λ (k : ℕ). drop k bytes) parts.1); after = omega (arith, parts.1, long); within = omega (arith, parts.1, fits, h) }
+          record {
+            good = long;
+            spelt = sym (take-append-drop n (drop at bytes)) ∙ ap (λ (x : List ℕ). x ++ drop n (drop at bytes)) parts.0 ∙ ap (λ (x : List ℕ). l ++ x) (drop-drop n at bytes
+                ∙ ap (λ (k : ℕ). drop k bytes) parts.1);
+            after = omega (arith, parts.1, long);
+            within = omega (arith, parts.1, fits, h);
+          }
       by false t = absurd (let u : text n bytes at ≡ Err (length bytes) = rw t refl in cc)
 
   text_cut : (bytes : List ℕ) (at place : ℕ) → text n bytes at ≡ Err place → (length bytes - at < n) × (place ≡ length bytes)
@@ -288,8 +338,20 @@ module _ (n : ℕ) where
       let zeros : ℕ = 0 in
       let more = replicate (n - (length bytes - at)) zeros in
       let sized = length-append (drop at bytes) more in
-      let count = length-replicate (n - (length bytes - at)) zeros in
-      (omega (arith, c.1, h), record { value = drop at bytes ++ more; good = omega (arith, sized, count, left, c.0); front = drop at bytes; missing = more; rest = []; begins = refl; stands = sym (append-nil (drop at bytes)); counted = omega (arith, left, c.1) })
+      let count = length-replicate (n - (length bytes - at)) zeros in (
+        omega (arith, c.1, h),
+        record {
+          value = drop at bytes ++ more;
+          good = omega (arith, sized, count, left, c.0);
+          front = drop at bytes;
+          missing = more;
+          rest = [];
+          begins = refl;
+          stands = sym
+              (append-nil (drop at bytes));
+          counted = omega (arith, left, c.1);
+        },
+      )
 
   text_most : (bytes : List ℕ) (at place m : ℕ) → at ≤ length bytes → text n bytes at ≡ Err place → Front (λ x. length x ≡ n) (λ x. x) (drop at bytes) m → at + m ≤ place
   text_most bytes at place m h e f =
@@ -299,7 +361,13 @@ module _ (n : ℕ) where
       omega (arith, c.1, left, sized, f.counted, h)
 
   pub is_text : Exact (text n) (λ x. length x ≡ n) (λ x. x)
-  is_text = record { back = λ l bytes rest at g h e. text_back l bytes rest at g h e; spells = λ l bytes at next y h e. text_spell l bytes at next h e; begins = λ bytes at place y h e. text_begin bytes at place h e; most = λ bytes at place m y h e f. text_most bytes at place m h e f }
+  is_text = record {
+    back = λ l bytes rest at g h e. text_back l bytes rest at g h e;
+    spells = λ l bytes at next y h e. text_spell l bytes at next h e;
+    begins = λ bytes at place y h e. text_begin bytes at
+        place h e;
+    most = λ bytes at place m y h e f. text_most bytes at place m h e f;
+  }
 
 -- ---- many
 
@@ -313,7 +381,8 @@ module _ {A : Type 0} (read : ℕ → Reader A) (Good : ℕ → A → Type 0) (s
   halves d [] = (d, [])
   halves d (a ∷ l) = (a, l)
 
-  listed : (i n : ℕ) → Same first_of_list (halves (some i).0) (both (read i) (λ a. many read (i + 1) n)) (λ p. Good i p.0 × AreGood Good (i + 1) n p.1) (λ p. spell_one p.0 ++ flat_map spell_one p.1) (AreGood Good i (suc n)) (flat_map spell_one)
+  listed : (i n : ℕ) → Same first_of_list (halves (some i).0) (both (read i) (λ a. many read (i + 1) n)) (λ p. Good i p.0
+      × AreGood Good (i + 1) n p.1) (λ p. spell_one p.0 ++ flat_map spell_one p.1) (AreGood Good i (suc n)) (flat_map spell_one)
   listed i n = record { good_part = good_part; whole = whole; spelt = spelt; good_whole = λ p g. g; parted = λ p g. refl }
     where
       good_part : (c : List A) → AreGood Good i (suc n) c → Good i (halves (some i).0 c).0 × AreGood Good (i + 1) n (halves (some i).0 c).1
@@ -336,5 +405,6 @@ module _ {A : Type 0} (read : ℕ → Reader A) (Good : ℕ → A → Type 0) (s
   unfolding many
   are_many i zero = is_nothing [] (AreGood Good i zero) (flat_map spell_one) tt (none_only i) refl
   are_many i (suc n) =
-      is_made first_of_list (halves (some i).0) (both (read i) (λ a. many read (i + 1) n)) (λ p. Good i p.0 × AreGood Good (i + 1) n p.1) (λ p. spell_one p.0 ++ flat_map spell_one p.1) (AreGood Good i (suc n)) (flat_map spell_one) (listed i n)
+      is_made first_of_list (halves (some i).0) (both (read i) (λ a. many read (i + 1) n)) (λ p. Good i p.0
+      × AreGood Good (i + 1) n p.1) (λ p. spell_one p.0 ++ flat_map spell_one p.1) (AreGood Good i (suc n)) (flat_map spell_one) (listed i n)
       (are_both (read i) (λ a. many read (i + 1) n) (Good i) (λ a l. AreGood Good (i + 1) n l) spell_one (λ a l. flat_map spell_one l) (exact i) (λ a g. are_many (i + 1) n) (λ a g. some_many (i + 1) n))

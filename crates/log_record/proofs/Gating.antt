@@ -25,7 +25,7 @@ before_none : (o : Opening) → before [] o ≡ o
 before_none (Ok o) = refl
 before_none (Err at) = refl
 
-reached_one : (file : ℕ) (s t : Reached) (rs : List Record) (r : Record) → reached file s rs ≡ Some t → follows file t r ≡ true → reached file s (rs ++ r ∷ []) ≡ Some (after t r)
+pub reached_one : (file : ℕ) (s t : Reached) (rs : List Record) (r : Record) → reached file s rs ≡ Some t → follows file t r ≡ true → reached file s (rs ++ r ∷ []) ≡ Some (after t r)
 reached_one file s t [] r e f = let same : s ≡ t = cc in rw (same, f) refl
 reached_one file s t (q ∷ rs) r e f = by (follows file s q) (λ e'. reached_one file (after s q) t rs r e' f) e
   where
@@ -33,7 +33,7 @@ reached_one file s t (q ∷ rs) r e f = by (follows file s q) (λ e'. reached_on
     by true more e = more e
     by false more e = absurd cc
 
-small_push : (rs : List Record) (r : Record) → AreSmall rs → IsSmall r → AreSmall (rs ++ r ∷ [])
+pub small_push : (rs : List Record) (r : Record) → AreSmall rs → IsSmall r → AreSmall (rs ++ r ∷ [])
 small_push [] r a s = (s, tt)
 small_push (q ∷ rs) r a s = (a.0, small_push rs r a.1 s)
 

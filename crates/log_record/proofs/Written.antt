@@ -1,13 +1,14 @@
 -- Well-formed entries, whatever their indices.
-use Rattle.std.proofs.Common.{◌≡◌, ℕ, ◌+◌, ◌%◌, ◌<◌, List, [], ◌∷◌, ◌++◌, true, ◌&&◌, Result, Ok, Err, OnOk, length, drop, get_or, refl, sym, ap, ◌∙◌, append_assoc, subst, arith}
+use Rattle.std.proofs.Common.{◌≡◌, ℕ, ◌+◌, ◌%◌, ◌<◌, List, [], ◌∷◌, ◌++◌, true, ◌&&◌, Result, Ok, Err, OnOk, length, drop, take, get_or, refl, sym, ap, ◌∙◌, append_assoc, subst, arith}
 use Rattle.std.specs.Prelude.{◌==◌, nat_le}
 use Rattle.std.specs.List.{flat_map, list_all}
 use Rattle.std.proofs.lemmas.List.{drop_more}
+use Rattle.std.proofs.lemmas.List.Folds.{list_all_more}
 use Rattle.std.proofs.lemmas.Bool.{and_from, and_parts}
 use Rattle.host_ids.specs.declared.entry.Entry.{Entry}
 use Rattle.wire_types.specs.Grammar.{is_entry}
 use Rattle.wire_codec.specs.Reading.{number_bytes}
-use Rattle.wire_codec.specs.Entry.{entry_bytes}
+use Rattle.wire_codec.specs.Entry.{entry_bytes, fits}
 use Rattle.log_record.specs.declared.record.Record.{Record}
 use Rattle.log_record.specs.declared.record.Record.TheVariants as records
 use Rattle.log_record.specs.declared.record.TheConstants.{MOST_VOTE}
@@ -36,6 +37,10 @@ pub advances : (out new : List ℕ) (es : List Entry) (i : ℕ) (e : Entry) → 
 advances out new es i e l is n =
     let first : drop i es ≡ e ∷ drop (i + 1) es = drop_more es i e l ∙ ap (λ (x : Entry). x ∷ drop (i + 1) es) (sym is) in
     ap (λ (x : List ℕ). x ++ flat_map entry_bytes (drop (i + 1) es)) n ∙ append_assoc out (entry_bytes e) (flat_map entry_bytes (drop (i + 1) es)) ∙ ap (λ (x : List Entry). out ++ flat_map entry_bytes x) (sym first)
+
+-- one entry more fits
+pub one_fits : (es : List Entry) (i : ℕ) (e : Entry) → i < length es → e ≡ get_or es i e → list_all fits (take i es) ≡ true → fits e ≡ true → list_all fits (take (i + 1) es) ≡ true
+one_fits es i e l is before fitting = list_all_more fits es i e l ∙ and_from (list_all fits (take i es)) (fits (get_or es i e)) before (ap fits (sym is) ∙ fitting)
 
 module _ (r : Record) (term vote commit front front_term first : ℕ) (entries : List Entry) (is : r ≡ records.Batch term vote commit front front_term first entries) where
   formed : is_record r ≡ true → is_record (records.Batch term vote commit front front_term first entries) ≡ true

@@ -80,10 +80,13 @@ record_of bytes = whole record_at bytes
 
 -- ---- records that bytes can hold
 
+-- each number of a batch's head fits in its field
+abbrev pub fits_head : ℕ → ℕ → ℕ → ℕ → ℕ → Bool
+fits_head term commit front front_term first = nat_lt term (2 ^ 64) && nat_lt commit (2 ^ 64) && nat_lt front (2 ^ 64) && nat_lt front_term (2 ^ 64) && nat_lt first (2 ^ 64)
+
 -- each number fits in its field
 abbrev pub fits_record : Record → Bool
-fits_record (records.Batch term vote commit front front_term first entries) =
-    nat_lt term (2 ^ 64) && nat_lt commit (2 ^ 64) && nat_lt front (2 ^ 64) && nat_lt front_term (2 ^ 64) && nat_lt first (2 ^ 64) && list_all fits entries
+fits_record (records.Batch term vote commit front front_term first entries) = fits_head term commit front front_term first && list_all fits entries
 fits_record (records.Start number) = nat_lt number (2 ^ 64)
 
 pub record IsRecord (r : Record) : Type 0 where

@@ -1,18 +1,23 @@
-ghost use Rattle.std.specs.Prelude.{◌≡◌, [], ℕ, Ok, Err, IfOk, OnOk, IsErrOf, true};
+ghost use Rattle.std.specs.Prelude.{◌≡◌, ◌≢◌, ◌⊎◌, ◌^◌, ◌<◌, ◌++◌, ◌∷◌, [], ℕ, List, Some, Ok, Err, IfOk, OnOk, OnErr, IsErrOf, length, true};
 ghost use Rattle.disk_model.specs.Calls.{Keeps};
 ghost use Rattle.disk_model.specs.Crash.{Only, SameBut};
+ghost use Rattle.gate_files.specs.Gates.{framed};
 ghost use Rattle.gate_files.specs.Moments.{LeavesOnly, OnlyOf};
 ghost use Rattle.log_record.specs.declared.fault.StoreFault.TheVariants.{BadStore as BadStoreAt};
-ghost use Rattle.log_record.specs.Record.{is_record};
-ghost use Rattle.log_record.specs.Store.{Caused, IsStore, OpensTo, follows, store_of};
+ghost use Rattle.log_record.specs.declared.record.Record.{Record as RecordOf};
+ghost use Rattle.log_record.specs.Record.{fits_record, is_record, record_bytes};
+ghost use Rattle.log_record.specs.Store.{Caused, IsStore, OpensTo, follows, nothing_yet, reached, store_of};
 
 use crate::fault::StoreFault;
 use crate::opening::read_records;
 use crate::reached::Reached;
 use crate::record::Record;
+use crate::writing::write_record;
 use disk_model::Disk;
-use gate_files::load;
+use gate_files::{load, save};
+use host_ids::NoMemory;
 use std::alloc::Global;
+use wire_codec::write_32;
 
 /// Makes a log file without records, by two calls of the disk.
 ///
@@ -55,6 +60,7 @@ impl GateFile {
     ) -> Result<(GateFile, Vec<Record>), StoreFault>
         ensures records { (D.state disk.old).tells → IfOk result (λ r. store_of file ((D.state disk.old).seen file) ≡ Ok (r.1.items, r.0.gate)) }
         ensures store { (D.state disk.old).honest → IfOk result (λ r. IsStore (D.state disk.new) r.0 r.1.items) }
+        ensures reached { IfOk result (λ r. reached file nothing_yet r.1.items ≡ Some r.0.reached) }
         ensures file { IfOk result (λ r. r.0.file ≡ file) }
         ensures bad_store { (f at : ℕ) → (D.state disk.old).tells → IsErrOf result (BadStoreAt f at) → (f ≡ file) × (store_of file ((D.state disk.old).seen file) ≡ Err at) }
         ensures keeps { Keeps (D.state disk.old) (D.state disk.new) }
@@ -81,4 +87,50 @@ impl GateFile {
     {
         self.reached.follows(self.file, record)
     }
+
+    /// Saves one record by four calls of the disk.
+    ///
+    /// At every moment a crash leaves the records of before or those with this one, and of the other
+    /// files what it could have left before; once `append` has answered Ok, every crash leaves it.
+    /// `Failed` comes only where the disk's count of faults rose; the file is opened again then.
+    /// `NoMemory` also comes where the file would reach 2^64-1 bytes.
+    pub fn append<D: Disk>(&mut self, disk: &mut D, record: &Record) -> Result<(), StoreFault>
+        requires formed { is_record record.now ≡ true }
+        requires few { length (record_bytes record.now) < 2 ^ 32 }
+        requires follows { follows self.old.file self.old.reached record.now ≡ true }
+        ensures saved { (rs : List RecordOf) → (D.state disk.old).honest → IsStore (D.state disk.old) self.old rs → OnOk result (IsStore (D.state disk.new) self.new (rs ++ record.now ∷ [])) }
+        ensures any_moment { (rs : List RecordOf) → (D.state disk.old).honest → IsStore (D.state disk.old) self.old rs → LeavesOnly (D.state disk.old) (D.state disk.new) (OnlyOf (D.state disk.old).may_leave self.old.file (λ bytes. OpensTo self.old.file rs bytes ⊎ OpensTo self.old.file (rs ++ record.now ∷ []) bytes)) }
+        ensures others { (D.state disk.old).tells → SameBut self.old.file (D.state disk.old).seen (D.state disk.new).seen }
+        ensures tells { (D.state disk.old).tells → (D.state disk.new).tells }
+        ensures honest { (D.state disk.old).honest → (D.state disk.new).honest }
+        ensures file { self.new.file ≡ self.old.file }
+        ensures err { OnErr result (self.new ≡ self.old) }
+        ensures cause { Caused (D.state disk.old) (D.state disk.new) result }
+        ensures good { (f at : ℕ) → IsErrOf result (BadStoreAt f at) → ⊥ }
+    {
+        let framed = frame(self.alloc, record)?;
+        if u64::MAX - self.gate <= framed.len() as u64 {
+            return Err(StoreFault::NoMemory);
+        }
+        save(disk, self.file, self.gate, &framed)?;
+        self.gate += framed.len() as u64;
+        self.reached.take(self.file, record);
+        Ok(())
+    }
+}
+
+/// What the first write of a record puts after its gate: its length, its bytes and a closed gate.
+fn frame(alloc: Global, record: &Record) -> Result<Vec<u8>, NoMemory>
+    requires formed { is_record record.now ≡ true }
+    requires few { length (record_bytes record.now) < 2 ^ 32 }
+    ensures bytes { IfOk result (λ b. b.items ≡ framed (record_bytes record.now)) }
+    ensures fits { OnOk result (fits_record record.now ≡ true) }
+{
+    let bytes = write_record(alloc, record)?;
+    let mut framed = Vec::new(alloc);
+    framed.reserve(bytes.len() + 5)?;
+    write_32(&mut framed, bytes.len() as u32)?;
+    framed.extend_from_slice(&bytes)?;
+    framed.push(0)?;
+    Ok(framed)
 }

@@ -1,9 +1,9 @@
 ghost use Rattle.std.specs.Prelude.{◌≡◌, ◌++◌, ◌<◌, ◌^◌, ℕ, true, IfOk, OnOk, length};
 ghost use Rattle.std.specs.List.{flat_map, list_all};
-ghost use Rattle.wire_codec.specs.Entry.{entry_bytes};
+ghost use Rattle.wire_codec.specs.Entry.{entry_bytes, fits};
 ghost use Rattle.wire_codec.specs.Reading.{number_bytes};
 ghost use Rattle.wire_types.specs.Grammar.{is_entry};
-ghost use Rattle.log_record.specs.Record.{head_bytes, is_record, record_bytes};
+ghost use Rattle.log_record.specs.Record.{fits_head, fits_record, head_bytes, is_record, record_bytes};
 
 use crate::record::{BATCH, Record, START};
 use host_ids::{Entry, NoMemory};
@@ -14,7 +14,8 @@ use wire_codec::{write_32, write_64, write_entry};
 fn put_entries(out: &mut Vec<u8>, entries: &[Entry]) -> Result<(), NoMemory>
     requires formed { list_all is_entry entries.now ≡ true }
     requires few { length entries.now < 2 ^ 32 }
-    ensures { OnOk result (out.new.items ≡ out.old.items ++ (number_bytes 4 (length entries.now) ++ flat_map entry_bytes entries.now)) }
+    ensures bytes { OnOk result (out.new.items ≡ out.old.items ++ (number_bytes 4 (length entries.now) ++ flat_map entry_bytes entries.now)) }
+    ensures fits { OnOk result (list_all fits entries.now ≡ true) }
 {
     write_32(out, entries.len() as u32)?;
     for entry in entries {
@@ -33,7 +34,8 @@ fn put_head(
     front_term: u64,
     first: u64,
 ) -> Result<(), NoMemory>
-    ensures { OnOk result (out.new.items ≡ out.old.items ++ head_bytes term vote commit front front_term first) }
+    ensures bytes { OnOk result (out.new.items ≡ out.old.items ++ head_bytes term vote commit front front_term first) }
+    ensures fits { fits_head term commit front front_term first ≡ true }
 {
     out.push(BATCH)?;
     write_64(out, term)?;
@@ -47,7 +49,8 @@ fn put_head(
 /// Adds the bytes of a well-formed record.
 pub(crate) fn put_record(out: &mut Vec<u8>, record: &Record) -> Result<(), NoMemory>
     requires { is_record record.now ≡ true }
-    ensures { OnOk result (out.new.items ≡ out.old.items ++ record_bytes record.now) }
+    ensures bytes { OnOk result (out.new.items ≡ out.old.items ++ record_bytes record.now) }
+    ensures fits { OnOk result (fits_record record.now ≡ true) }
 {
     match record {
         Record::Batch {
@@ -71,10 +74,12 @@ pub(crate) fn put_record(out: &mut Vec<u8>, record: &Record) -> Result<(), NoMem
 
 /// The bytes of a well-formed record. The only error is `NoMemory`.
 ///
-/// A batch has 46 bytes and those of its entries, a start 9.
+/// A batch has 46 bytes and those of its entries, a start 9. They stand for that record alone: each of
+/// its numbers fits in its field.
 pub fn write_record(alloc: Global, record: &Record) -> Result<Vec<u8>, NoMemory>
     requires { is_record record.now ≡ true }
-    ensures { IfOk result (λ b. b.items ≡ record_bytes record.now) }
+    ensures bytes { IfOk result (λ b. b.items ≡ record_bytes record.now) }
+    ensures fits { OnOk result (fits_record record.now ≡ true) }
 {
     let mut out = Vec::new(alloc);
     put_record(&mut out, record)?;

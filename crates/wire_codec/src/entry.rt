@@ -1,7 +1,7 @@
-ghost use Rattle.std.specs.Prelude.{◌≡◌, ◌+◌, ◌-◌, ◌≤◌, ◌++◌, ◌==◌, ℕ, List, Bool, true, Ok, Err, IfOk, OnOk, IsErrOf, length, take, drop};
+ghost use Rattle.std.specs.Prelude.{◌≡◌, ◌+◌, ◌-◌, ◌^◌, ◌<◌, ◌≤◌, ◌++◌, ◌==◌, ℕ, List, Bool, true, Ok, Err, IfOk, OnOk, IsErrOf, length, take, drop};
 ghost use Rattle.wire_types.specs.Grammar.{is_entry, is_proposal};
 ghost use Rattle.wire_codec.specs.Reading.{IsLongestFront, NoneStands, Stands, number_bytes};
-ghost use Rattle.wire_codec.specs.Entry.{IsEntryAt, key_bytes, proposal_bytes, entry_bytes, key_at, proposal_at, entry_at, proposal_of};
+ghost use Rattle.wire_codec.specs.Entry.{IsEntryAt, key_bytes, proposal_bytes, entry_bytes, key_at, proposal_at, entry_at, proposal_of, client_of, fits};
 ghost use Rattle.host_ids.specs.declared.entry.Entry.{Entry as EntryOf};
 ghost use Rattle.host_ids.specs.declared.proposal.TheConstants.{MOST_COMMAND};
 ghost use Rattle.wire_codec.specs.declared.fault.DecodeFault.TheVariants.{NotEnvelope as RefusedAt};
@@ -19,7 +19,8 @@ const CLOSE: u64 = MOST_SERIES + 2;
 
 /// Adds the bytes of a key, of which there are 17.
 fn write_key(out: &mut Vec<u8>, key: &Key) -> Result<(), NoMemory>
-    ensures { OnOk result (out.new.items ≡ out.old.items ++ key_bytes key.now) }
+    ensures bytes { OnOk result (out.new.items ≡ out.old.items ++ key_bytes key.now) }
+    ensures fits { OnOk result ((key.now.start < 2 ^ 64) × (key.now.serial < 2 ^ 64)) }
 {
     out.push(key.host)?;
     write_64(out, key.start)?;
@@ -35,7 +36,8 @@ fn write_numbers(
     command: &[u8],
 ) -> Result<(), NoMemory>
     requires { length command.now ≤ MOST_COMMAND }
-    ensures { OnOk result (out.new.items ≡ out.old.items ++ (number_bytes 8 client ++ (number_bytes 8 series ++ (number_bytes 8 responded ++ (number_bytes 2 (length command.now) ++ command.now))))) }
+    ensures fits { client < 2 ^ 64 }
+    ensures bytes { OnOk result (out.new.items ≡ out.old.items ++ (number_bytes 8 client ++ (number_bytes 8 series ++ (number_bytes 8 responded ++ (number_bytes 2 (length command.now) ++ command.now))))) }
 {
     write_64(out, client)?;
     write_64(out, series)?;
@@ -48,7 +50,8 @@ fn write_numbers(
 /// Adds the bytes of a proposal.
 fn write_proposal(out: &mut Vec<u8>, proposal: &Proposal) -> Result<(), NoMemory>
     requires { is_proposal proposal.now ≡ true }
-    ensures { OnOk result (out.new.items ≡ out.old.items ++ proposal_bytes proposal.now) }
+    ensures bytes { OnOk result (out.new.items ≡ out.old.items ++ proposal_bytes proposal.now) }
+    ensures fits { OnOk result (client_of proposal.now < 2 ^ 64) }
 {
     match proposal {
         Proposal::Blank => write_numbers(out, 0, 0, 0, &[]),
@@ -66,10 +69,12 @@ fn write_proposal(out: &mut Vec<u8>, proposal: &Proposal) -> Result<(), NoMemory
 
 /// Adds the bytes of a well-formed entry, all but its index, to some bytes. A blank has 51.
 ///
+/// What is written stands for that entry alone: each of its numbers fits in its field.
 /// The only error is `NoMemory`, and nothing is said of what the vector holds then.
 pub fn write_entry(out: &mut Vec<u8>, entry: &Entry) -> Result<(), NoMemory>
     requires { is_entry entry.now ≡ true }
     ensures bytes { OnOk result (out.new.items ≡ out.old.items ++ entry_bytes entry.now) }
+    ensures fits { OnOk result (fits entry.now ≡ true) }
 {
     write_64(out, entry.term)?;
     write_key(out, &entry.key)?;

@@ -1,4 +1,4 @@
-ghost use Rattle.std.specs.Prelude.{◌≡◌, ◌+◌, ◌-◌, ◌≤◌, ◌++◌, ℕ, Ok, Err, IfOk, OnOk, IsErrOf, length, take, drop};
+ghost use Rattle.std.specs.Prelude.{◌≡◌, ◌+◌, ◌-◌, ◌^◌, ◌<◌, ◌≤◌, ◌++◌, ℕ, Ok, Err, IfOk, OnOk, IsErrOf, length, take, drop};
 ghost use Rattle.wire_codec.specs.Reading.{number, number_bytes, place_of, text};
 ghost use Rattle.wire_codec.specs.declared.fault.DecodeFault.TheVariants.{NoMemory as OutOfMemory, NotEnvelope as RefusedAt};
 
@@ -28,7 +28,8 @@ pub fn write_32(out: &mut Vec<u8>, number: u32) -> Result<(), NoMemory>
 
 /// Adds a number in eight bytes. The only error is `NoMemory`.
 pub fn write_64(out: &mut Vec<u8>, number: u64) -> Result<(), NoMemory>
-    ensures { OnOk result (out.new.items ≡ out.old.items ++ number_bytes 8 number) }
+    ensures bytes { OnOk result (out.new.items ≡ out.old.items ++ number_bytes 8 number) }
+    ensures fits { number < 2 ^ 64 }
 {
     let mut field = [0; 8];
     BigEndian::write_u64(&mut field, number);

@@ -1,23 +1,17 @@
 -- Files that hold records, on a disk.
-use Rattle.std.proofs.Common.{[], arith, inl, inr, refl, ◌++◌, ◌+◌, ◌∙◌, ◌∷◌, ◌≡◌, ◌⊎◌, ap, drop, get_or, length, List, map, Some, subst, sym, ℕ, true}
+use Rattle.std.proofs.Common.{[], arith, inl, inr, refl, ◌++◌, ◌+◌, ◌∙◌, ◌∷◌, ◌≡◌, ◌⊎◌, ap, drop, get_or, List, map, Some, subst, sym, ℕ, true}
 use Rattle.std.proofs.lemmas.List.{drop_more, map-append}
-use Rattle.disk_model.specs.Crash.{Image}
 use Rattle.disk_model.specs.State.{DiskState, IsDisk}
 use Rattle.disk_model.specs.Calls.{IsSure, Keeps}
-use Rattle.gate_files.specs.Gates.{IsAt, OldOrNew, Opens, header, opened}
+use Rattle.gate_files.specs.Gates.{IsAt, OldOrNew, Opens}
 use Rattle.gate_files.specs.Moments.{LeavesOnly, OnlyOf}
 use Rattle.log_record.specs.declared.gate_file.GateFile.{GateFile}
 use Rattle.log_record.specs.declared.record.Record.{Record}
 use Rattle.log_record.specs.declared.reached.Reached.{Reached}
 use Rattle.log_record.specs.Record.{record_bytes}
-use Rattle.log_record.specs.Store.{AreSmall, IsSmall, IsStore, IsWhole, OpensTo, after, all_gated, follows, nothing_yet, reached}
+use Rattle.log_record.specs.Store.{AreSmall, IsSmall, IsStore, IsWhole, OpensTo, after, follows, nothing_yet, reached}
 use Rattle.log_record.proofs.Gating.{reached_one, small_push}
-use Rattle.log_record.proofs.Stored.{stored}
-
--- bytes that open to the bytes of records open to these
-pub to_opens : (file : ℕ) (rs : List Record) (s : Reached) (bytes : List ℕ) → AreSmall rs → reached file nothing_yet rs ≡ Some s → Opens (map record_bytes rs) bytes → OpensTo file rs bytes
-to_opens file rs s bytes a e o =
-    (length (header ++ all_gated rs), stored file bytes o.2.0 o.2.1 o.2.3 rs s a e (o.1 ∙ ap (λ (l : List ℕ). opened (map record_bytes rs) ++ l) o.2.2))
+use Rattle.log_record.specs.laws.Files.{more_kinds, leaves_these, to_opens}
 
 -- a file that was read, and is sure, is at its gate
 pub at_gate : (old new : DiskState) (file gate : ℕ) (bytes : List ℕ) (rs : List Record) (s : Reached) → old.tells → bytes ≡ old.seen file → IsWhole file bytes rs gate s → Keeps old new → IsSure file new → IsAt new file gate (map record_bytes rs)
@@ -26,22 +20,10 @@ at_gate old new file gate bytes rs s tells read w keeps sure =
     let opens : Opens (map record_bytes rs) bytes = (drop gate bytes, w.stands, (get_or bytes gate 0, drop (gate + 1) bytes, drop_more bytes gate 0 w.within, w.shut)) in
     record { opens = subst (Opens (map record_bytes rs)) same opens; place = w.place; sure = sure.bytes }
 
--- of a file with these records a crash leaves bytes that open to them
-pub leaves_these : (s : DiskState) (g : GateFile) (rs : List Record) → IsStore s g rs → (c : Image) → s.may_leave c → OpensTo g.file rs (c g.file)
-leaves_these s g rs is c m = to_opens g.file rs g.reached (c g.file) is.small is.reaches (subst (Opens (map record_bytes rs)) (sym (is.at_gate.sure c m)) is.at_gate.opens)
-
 -- a call that doesn't touch the disk
 pub untouched : (s : DiskState) (g : GateFile) (rs : List Record) (r : Record) → IsDisk s → s.honest → IsStore s g rs → LeavesOnly s s (OnlyOf s.may_leave g.file (λ bytes. OpensTo g.file rs bytes ⊎ OpensTo g.file (rs ++ r ∷ []) bytes))
 untouched s g rs r disk honest is =
     record { later = omega arith; each = λ c l. (let m = disk.only_now honest c l in (c, m, (λ f other. refl), inl (leaves_these s g rs is c m))); before = λ t c u l. inl l; keeps = λ t c u l. l }
-
--- a kind of images that holds more
-pub more_kinds : (old new : DiskState) (P Q : Image → Type 0) → ((c : Image) → P c → Q c) → LeavesOnly old new P → LeavesOnly old new Q
-more_kinds old new P Q f l = record { later = l.later; each = λ c m. f c (l.each c m); before = λ t c u m. either_way (l.before t c u m); keeps = l.keeps }
-  where
-    either_way : {A : Type 0} {c : Image} → A ⊎ P c → A ⊎ Q c
-    either_way (inl a) = inl a
-    either_way {c = c} (inr p) = inr (f c p)
 
 -- what a save leaves, by bytes, is what it leaves by records
 module _ (file : ℕ) (rs : List Record) (r : Record) (s : Reached) (small : AreSmall rs) (one : IsSmall r) (reaches : reached file nothing_yet rs ≡ Some s) (next : follows file s r ≡ true) where

@@ -1,7 +1,6 @@
 pub mod Files
 pub mod Gating
 pub mod Many
+pub mod Sizes
 pub mod Standing
-pub mod Stored
-pub mod Whole
 pub mod Written

@@ -10,8 +10,8 @@ use Rattle.log_record.specs.declared.record.Record.{Record}
 use Rattle.log_record.specs.Record.{record_bytes, record_of}
 use Rattle.gate_files.specs.Gates.{gated}
 use Rattle.log_record.specs.Store.{IsSmall, gated_at, sized_at, whole_record, with_gate}
-use Rattle.log_record.proofs.Stored.{IsSized, sized_exact}
-use Rattle.log_record.proofs.Whole.{spelt}
+use Rattle.log_record.specs.laws.Stored.{IsSized, sized_exact}
+use Rattle.log_record.specs.laws.Whole.{spelt}
 
 -- a part of bytes is bytes
 front_bytes : (a b : List ℕ) → AreBytes (a ++ b) → AreBytes a

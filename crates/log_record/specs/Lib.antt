@@ -1,3 +1,4 @@
+pub mod Durable
 pub mod Fault
 pub mod Record
 pub mod Store

@@ -1,1 +1,5 @@
+pub mod Files
+pub mod Forms
 pub mod Records
+pub mod Stored
+pub mod Whole

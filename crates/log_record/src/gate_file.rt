@@ -5,9 +5,11 @@ ghost use Rattle.gate_files.specs.Gates.{framed};
 ghost use Rattle.gate_files.specs.Moments.{LeavesOnly, OnlyOf};
 ghost use Rattle.log_record.specs.declared.fault.StoreFault.TheVariants.{BadStore as BadStoreAt};
 ghost use Rattle.log_record.specs.declared.record.Record.{Record as RecordOf};
+ghost use Rattle.log_record.specs.Durable.{takes};
 ghost use Rattle.log_record.specs.Record.{fits_record, is_record, record_bytes};
-ghost use Rattle.log_record.specs.Store.{Caused, IsStore, OpensTo, follows, nothing_yet, reached, store_of};
+ghost use Rattle.log_record.specs.Store.{AreSmall, Caused, IsStore, OpensTo, after, follows, nothing_yet, reached, store_of};
 
+use crate::batch::is_small_batch;
 use crate::fault::StoreFault;
 use crate::opening::read_records;
 use crate::reached::Reached;
@@ -15,7 +17,7 @@ use crate::record::Record;
 use crate::writing::write_record;
 use disk_model::Disk;
 use gate_files::{load, save};
-use host_ids::NoMemory;
+use host_ids::{Batch, NoMemory};
 use std::alloc::Global;
 use wire_codec::write_32;
 
@@ -60,6 +62,7 @@ impl GateFile {
     ) -> Result<(GateFile, Vec<Record>), StoreFault>
         ensures records { (D.state disk.old).tells → IfOk result (λ r. store_of file ((D.state disk.old).seen file) ≡ Ok (r.1.items, r.0.gate)) }
         ensures store { (D.state disk.old).honest → IfOk result (λ r. IsStore (D.state disk.new) r.0 r.1.items) }
+        ensures formed { IfOk result (λ r. AreSmall r.1.items) }
         ensures reached { IfOk result (λ r. reached file nothing_yet r.1.items ≡ Some r.0.reached) }
         ensures file { IfOk result (λ r. r.0.file ≡ file) }
         ensures bad_store { (f at : ℕ) → (D.state disk.old).tells → IsErrOf result (BadStoreAt f at) → (f ≡ file) × (store_of file ((D.state disk.old).seen file) ≡ Err at) }
@@ -88,6 +91,26 @@ impl GateFile {
         self.reached.follows(self.file, record)
     }
 
+    /// Whether a batch can be saved to the file: its record is well formed, has fewer than 2^32 bytes
+    /// and may follow. It takes a step for each entry.
+    pub fn takes(&self, batch: &Batch) -> bool
+        ensures { result ≡ takes self.now.file self.now.reached batch.now }
+    {
+        if batch.first == 0 || !is_small_batch(batch) {
+            return false;
+        }
+        let count = batch.entries.items().len() as u64;
+        self.reached.is_followed_by(
+            self.file,
+            batch.term,
+            batch.commit,
+            batch.front,
+            batch.front_term,
+            batch.first,
+            count,
+        )
+    }
+
     /// Saves one record by four calls of the disk.
     ///
     /// At every moment a crash leaves the records of before or those with this one, and of the other
@@ -104,6 +127,7 @@ impl GateFile {
         ensures tells { (D.state disk.old).tells → (D.state disk.new).tells }
         ensures honest { (D.state disk.old).honest → (D.state disk.new).honest }
         ensures file { self.new.file ≡ self.old.file }
+        ensures reached { OnOk result (self.new.reached ≡ after self.old.reached record.now) }
         ensures err { OnErr result (self.new ≡ self.old) }
         ensures cause { Caused (D.state disk.old) (D.state disk.new) result }
         ensures good { (f at : ℕ) → IsErrOf result (BadStoreAt f at) → ⊥ }

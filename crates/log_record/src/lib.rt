@@ -1,6 +1,7 @@
 //! The records of a host's log files as bytes, both ways.
 #![tactic(auto)]
 
+mod batch;
 mod fault;
 mod gate_file;
 mod opening;
@@ -9,6 +10,7 @@ mod reading;
 mod record;
 mod writing;
 
+pub use batch::record_of;
 pub use fault::{RecordFault, StoreFault};
 pub use gate_file::{GateFile, make};
 pub use reached::Reached;

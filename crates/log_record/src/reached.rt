@@ -1,7 +1,7 @@
-ghost use Rattle.std.specs.Prelude.{◌≡◌, true};
+ghost use Rattle.std.specs.Prelude.{◌≡◌, ◌+◌, ◌<◌, ◌^◌, ◌&&◌, true};
 ghost use Rattle.log_record.specs.Record.{is_record};
 ghost use Rattle.wire_types.specs.Grammar.{is_end};
-ghost use Rattle.log_record.specs.Store.{after, follows, no_gap, nothing_yet};
+ghost use Rattle.log_record.specs.Store.{after, batch_follows, follows, is_log, no_gap, nothing_yet};
 
 use crate::record::Record;
 
@@ -58,18 +58,36 @@ impl Reached {
                 first,
                 entries,
             } => {
-                let is_log = file != 0 && file % 1000 == 0;
-                is_log
-                    && self.leaves_no_gap(*front, *first)
-                    && *front <= *commit
-                    && *commit < *first + entries.items().len() as u64
-                    && is_end(*front, *front_term)
-                    && self.term <= *term
-                    && self.commit <= *commit
-                    && self.front <= *front
+                let count = entries.items().len() as u64;
+                self.is_followed_by(file, *term, *commit, *front, *front_term, *first, count)
             }
             Record::Start { number } => { file == 0 && 1 <= *number && *number - 1 == self.number }
         }
+    }
+
+    /// Whether a batch with these numbers may follow in this file.
+    pub(crate) fn is_followed_by(
+        &self,
+        file: u64,
+        term: u64,
+        commit: u64,
+        front: u64,
+        front_term: u64,
+        first: u64,
+        count: u64,
+    ) -> bool
+        requires { first + count < 2 ^ 64 }
+        ensures { result ≡ (is_log file && batch_follows self.now term commit front front_term first count) }
+    {
+        let is_log = file != 0 && file % 1000 == 0;
+        is_log
+            && self.leaves_no_gap(front, first)
+            && front <= commit
+            && commit < first + count
+            && is_end(front, front_term)
+            && self.term <= term
+            && self.commit <= commit
+            && self.front <= front
     }
 
     /// Whether entries from `first` on begin after the front and leave no gap.

@@ -1,6 +1,6 @@
 use Rattle.std.proofs.Common.{[], refl}
 use Rattle.log_record.specs.Store.{nothing_yet}
-use Rattle.log_record.proofs.Files.{to_opens}
+use Rattle.log_record.specs.laws.Files.{to_opens}
 use Rattle.log_record.proofs.gate_file.make.Goals as goal
 
 pub returns-clause-made : goal.returns-clause-made

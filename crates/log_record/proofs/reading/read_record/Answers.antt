@@ -1,6 +1,6 @@
 use Rattle.std.proofs.Common.{arith}
 use Rattle.wire_codec.specs.laws.Bytes.{are_bytes}
-use Rattle.log_record.proofs.Whole.{is_back, is_spelt, longest, no_record}
+use Rattle.log_record.specs.laws.Whole.{is_back, is_spelt, longest, no_record}
 use Rattle.log_record.proofs.reading.read_record.Goals as goal
 
 pub returns-clause-spelt : goal.returns-clause-spelt

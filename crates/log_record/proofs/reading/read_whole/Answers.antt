@@ -1,5 +1,5 @@
 use Rattle.std.proofs.Common.{arith}
-use Rattle.log_record.proofs.Whole.{to_the_end}
+use Rattle.log_record.specs.laws.Whole.{to_the_end}
 use Rattle.log_record.proofs.reading.read_whole.Goals as goal
 
 pub returns-clause-record : goal.returns-clause-record

@@ -14,7 +14,7 @@ use Rattle.log_record.specs.declared.reached.Reached.{Reached}
 use Rattle.log_record.specs.Record.{record_bytes}
 use Rattle.gate_files.specs.Gates.{gated, header}
 use Rattle.log_record.specs.Store.{AreSmall, IsSmall, all_gated, Opening, after, begins, follows, from_place, gated_at, nothing_yet, reached, sized_at, store_of}
-use Rattle.log_record.proofs.Whole.{read_back}
+use Rattle.log_record.specs.laws.Whole.{read_back}
 
 abbrev pub IsSized : ℕ × List ℕ → Type 0
 IsSized p = Between 0 (2 ^ 32 - 1) p.0 × (length p.1 ≡ p.0)

@@ -1,7 +1,8 @@
 -- What a store keeps of the batches that were saved. Source: this project's own.
-use Rattle.std.specs.Prelude.{◌≡◌, ℕ, ◌+◌, ◌-◌, ◌^◌, ◌<◌, ◌≤◌, ◌&&◌, List, [], ◌∷◌, ◌++◌, Bool, true, Result, Ok, Err, nat_lt, length, take, drop}
+use Rattle.std.specs.Prelude.{◌≡◌, ◌⊎◌, ℕ, ◌+◌, ◌-◌, ◌^◌, ◌<◌, ◌≤◌, ◌&&◌, List, [], ◌∷◌, ◌++◌, Bool, true, false, Result, Ok, Err, nat_lt, length, take, drop}
 use Rattle.host_ids.specs.declared.batch.Batch.{Batch}
 use Rattle.host_ids.specs.declared.entry.Entry.{Entry}
+use Rattle.disk_model.specs.Crash.{Image}
 use Rattle.wire_types.specs.Grammar.{is_end}
 use Rattle.log_record.specs.declared.record.Record.{Record}
 use Rattle.log_record.specs.declared.record.Record.TheVariants as records
@@ -84,3 +85,13 @@ durable_in file bytes = durable_if (store_of file bytes)
 -- bytes that keep this
 abbrev pub Keeps : ℕ → Batch → List ℕ → Type 0
 Keeps file d bytes = durable_in file bytes ≡ Ok d
+
+-- ---- stores of more files
+
+-- two images agree outside some files
+abbrev pub SameOutside : (ℕ → Bool) → Image → Image → Type 0
+SameOutside owns c d = (f : ℕ) → owns f ≡ false → d f ≡ c f
+
+-- an image that a crash before could have left, but for a store's files, which open to one state or another
+abbrev pub LeavesStore : (ℕ → Bool) → (Image → Result Batch (ℕ × ℕ)) → (Image → Type 0) → Batch → Batch → Image → Type 0
+LeavesStore owns opens may_leave old new c = (d : Image) × may_leave d × SameOutside owns d c × ((opens c ≡ Ok old) ⊎ (opens c ≡ Ok new))

@@ -2,6 +2,7 @@
 #![tactic(auto)]
 
 mod batch;
+mod durables;
 mod fault;
 mod gate_file;
 mod opening;
@@ -11,6 +12,7 @@ mod record;
 mod writing;
 
 pub use batch::record_of;
+pub use durables::Durables;
 pub use fault::{RecordFault, StoreFault};
 pub use gate_file::{GateFile, make};
 pub use reached::Reached;

@@ -1,19 +1,20 @@
 -- What a store's file keeps before, while and after a batch is saved.
 use Rattle.std.proofs.Common.{◌⊎◌, inl, inr, ◌≡◌, ℕ, ◌^◌, ◌<◌, List, [], ◌∷◌, ◌++◌, true, Ok, length, refl, sym, ap, ◌∙◌, subst, arith}
-use Rattle.std.specs.Prelude.{nat_lt}
-use Rattle.std.proofs.lemmas.Bool.{and_parts}
+use Rattle.std.specs.Prelude.{◌==◌, nat_lt}
+use Rattle.std.proofs.lemmas.Bool.{and_parts, eqb-false}
 use Rattle.host_ids.specs.declared.batch.Batch.{Batch}
+use Rattle.disk_model.specs.Crash.{Image, SameBut}
 use Rattle.disk_model.specs.State.{DiskState, IsDisk}
 use Rattle.gate_files.specs.Moments.{LeavesOnly, OnlyOf}
 use Rattle.log_record.specs.declared.gate_file.GateFile.{GateFile}
 use Rattle.log_record.specs.declared.record.Record.{Record}
 use Rattle.log_record.specs.declared.reached.Reached.{Reached}
-use Rattle.log_record.specs.Durable.{IsInForm, Keeps, Reaches, batch_record, durable_if, durable_of, is_small, nothing_kept, takes, with_batch}
+use Rattle.log_record.specs.Durable.{IsInForm, Keeps, LeavesStore, Reaches, SameOutside, batch_record, durable_if, durable_in, durable_of, is_small, nothing_kept, takes, with_batch}
 use Rattle.log_record.specs.Record.{is_record, record_bytes}
 use Rattle.log_record.specs.Store.{IsStore, OpensTo, after, follows}
 use Rattle.log_record.specs.laws.Files.{leaves_these, more_kinds}
 use Rattle.log_record.specs.laws.Forms.{batch_in_form, batch_reaches, follows_parts, with_records_push}
-use Rattle.log_store.specs.Kept.{IsSure, Plain}
+use Rattle.log_store.specs.Kept.{IsSure, Plain, told}
 
 -- ---- a batch that can be saved
 
@@ -95,3 +96,19 @@ module _ (p : Plain) (g : GateFile) (d : Batch) (v : p ≡ record { file = g; ke
       let f = kept_in_form g.file g.reached b (subst (λ (q : Plain). takes q.file.file q.file.reached b ≡ true) v m) d is c narrow in
       let there = a ∙ ap (λ (x : Record). after g.reached x) e in
       (subst IsInForm (sym n) f.0, subst (λ (x : Reached). Reaches x k) (sym there) (subst (λ (x : Batch). Reaches (after g.reached (batch_record b)) x) (sym n) f.1))
+
+-- ---- the same of images of all files
+
+pub same_outside : (file : ℕ) (c d : Image) → SameBut file c d → SameOutside (λ f. f == file) c d
+same_outside file c d s f e = s f (eqb-false f file e)
+
+-- a save leaves the store in one state or the other
+pub store_left : (old new : DiskState) (p : Plain) (b : Batch) → LeavesOnly old new (OnlyOf old.may_leave p.file.file (OldOrNew p b))
+    → LeavesOnly old new (LeavesStore (λ f. f == p.file.file) (λ c. told p.file.file (durable_in p.file.file (c p.file.file))) old.may_leave p.kept (with_batch p.kept b))
+store_left old new p b l =
+    more_kinds old new (OnlyOf old.may_leave p.file.file (OldOrNew p b)) (LeavesStore (λ f. f == p.file.file) (λ c. told p.file.file (durable_in p.file.file (c p.file.file))) old.may_leave p.kept (with_batch p.kept b))
+    (λ c o. (o.0, o.1, same_outside p.file.file o.0 c o.2, either (c p.file.file) o.3)) l
+  where
+    either : (bytes : List ℕ) → OldOrNew p b bytes → (told p.file.file (durable_in p.file.file bytes) ≡ Ok p.kept) ⊎ (told p.file.file (durable_in p.file.file bytes) ≡ Ok (with_batch p.kept b))
+    either bytes (inl k) = inl (ap (told p.file.file) k)
+    either bytes (inr k) = inr (ap (told p.file.file) k)

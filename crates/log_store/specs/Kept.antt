@@ -1,5 +1,5 @@
 -- What a store holds in memory, and what it says of its file. Source: this project's own.
-use Rattle.std.specs.Prelude.{◌≡◌, ◌+◌, List}
+use Rattle.std.specs.Prelude.{◌≡◌, ◌+◌, ℕ, List, Result, Ok, Err}
 use Rattle.host_ids.specs.declared.batch.Batch.{Batch}
 use Rattle.host_ids.specs.declared.entry.Entry.{Entry}
 use Rattle.disk_model.specs.State.{DiskState}
@@ -26,3 +26,8 @@ pub record IsSure (d : DiskState) (s : Plain) : Type 0 where
   pub records : List Record
   pub is_store : IsStore d s.file records
   pub same : s.kept ≡ durable_of records
+
+-- what a file keeps, or the file and the place of what is refused
+abbrev pub told : ℕ → Result Batch ℕ → Result Batch (ℕ × ℕ)
+told file (Ok d) = Ok d
+told file (Err at) = Err (file, at)

@@ -2,6 +2,7 @@
 #![tactic(auto)]
 
 mod kept;
+mod plain;
 mod store;
 
 pub use store::PlainStore;
